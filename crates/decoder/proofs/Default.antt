@@ -1,0 +1,72 @@
+-- The default arms of the code map: where what is known of a word's nibbles rules out every row, the word is undefined.
+-- Assumes nothing.
+use mathlib.Core.Path.{_≡_, sym, subst}
+use mathlib.Core.Bool.{Bool, true, false, _&&_, _||_, not, and-false}
+use mathlib.Core.List.{List, [], _∷_}
+use Prim.Native.Nat.{ℕ, _/_, _%_}
+use borrow.Author.Tests.{ne-eqb, eq-eqb}
+use lib.Dec.{T, T-not, eqb, eqb-refl}
+use Rattle.decoder.specs.Pattern.{Group, fixed, part, Code, agrees, code, matches}
+use Rattle.decoder.specs.Code.{meaning, among, rowMatches}
+use Rattle.decoder.specs.Table.{Row, table}
+use Rattle.decoder.specs.declared.meaning.Meaning.the-variants.{Undefined}
+use Rattle.decoder.proofs.Rows.{every, none-among}
+
+-- What is known of a nibble, as the test that it passes: its value, that it is none of some keys, or nothing.
+abbrev pub is : ℕ → ℕ → Bool
+is k x = eqb x k
+
+abbrev pub none-of : List ℕ → ℕ → Bool
+none-of [] x = true
+none-of (k ∷ keys) x = not (eqb x k) && none-of keys x
+
+abbrev pub anything : ℕ → Bool
+anything x = true
+
+pub known : {x k : ℕ} → x ≡ k → T (is k x)
+known {x} {k} e = subst (λ (y : ℕ). T (is y x)) e (eqb-refl x)
+
+-- The default arm of a match knows of each key, the last arm's first, that the number is another.
+abbrev Rest : List ℕ → ℕ → Type 0
+Rest [] x = Unit {0}
+Rest (k ∷ keys) x = Rest keys x × (x ≡ k → ⊥)
+
+pub no-key : (keys : List ℕ) (x : ℕ) → Rest keys x → T (none-of keys x)
+no-key [] x h = tt
+no-key (k ∷ keys) x h = rw (ne-eqb x k (h .1)) (no-key keys x (h .0))
+
+abbrev excludes : (ℕ → Bool) → Group → Bool
+excludes may (fixed k) = not (may k)
+excludes may (part s) = false
+
+ruled-out : (may : ℕ → Bool) (g : Group) (x : ℕ) → T (may x) → T (excludes may g) → agrees g x ≡ false
+ruled-out may (fixed k) x h t = ne-eqb x k (λ e. T-not (may k) t (subst (λ (y : ℕ). T (may y)) e h))
+ruled-out may (part s) x h t = absurd t
+
+-- A part that is false where a test passes makes the conjunction false, whichever test it is.
+no-match : (a b c d p q r s : Bool) → (T p → a ≡ false) → (T q → b ≡ false) → (T r → c ≡ false) → (T s → d ≡ false) → T (p || (q || (r || s))) → (a && (b && (c && d))) ≡ false
+no-match a b c d true q r s f g h k t = rw (f tt)
+no-match a b c d false true r s f g h k t = rw (g tt, and-false)
+no-match a b c d false false true s f g h k t = rw (h tt, and-false, and-false)
+no-match a b c d false false false s f g h k t = rw (k t) (simp and-false)
+
+module _ (top second third last : ℕ → Bool) where
+  abbrev silent : Code → Bool
+  silent c = excludes top (c .top) || (excludes last (c .last) || (excludes third (c .third) || excludes second (c .second)))
+
+  abbrev silentRow : Row → Bool
+  silentRow r = silent (code (r .pattern))
+
+  module _
+      (w : ℕ) (t : T (top (w / 4096))) (s : T (second (w / 256 % 16))) (h : T (third (w / 16 % 16))) (l : T (last (w % 16))) where
+    unmatched : (c : Code) → T (silent c) → matches c w ≡ false
+    unmatched c =
+        no-match _ _ _ _ (excludes top (c .top)) (excludes last (c .last)) (excludes third (c .third)) (excludes second (c .second))
+        (ruled-out top (c .top) (w / 4096) t)
+        (ruled-out last (c .last) (w % 16) l)
+        (ruled-out third (c .third) (w / 16 % 16) h)
+        (ruled-out second (c .second) (w / 256 % 16) s)
+
+    pub undefined : T (every silentRow table) → Undefined ≡ meaning w
+    unfolding meaning
+    undefined t = sym (none-among w silentRow (λ r. unmatched (code (r .pattern))) table t)

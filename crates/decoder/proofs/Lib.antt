@@ -1,0 +1,3 @@
+pub mod Default
+pub mod Digits
+pub mod Rows

@@ -1,0 +1,136 @@
+-- `decode` gives the table's meaning: each arm is the row of its nibbles or the group's own function, and what the default arm knows rules out every row.
+-- Assumes nothing.
+use mathlib.Core.List.{List, [], _∷_}
+use Prim.Native.Nat.{ℕ}
+use borrow.Author.Needs.{needs}
+use Rattle.decoder.specs.Code.{meaning}
+use Rattle.decoder.specs.Table.{table}
+use Rattle.decoder.proofs.Default.{none-of, anything, no-key, undefined}
+use Rattle.decoder.proofs.Digits.{last-two, last-three}
+use Rattle.decoder.proofs.code_map.decode.Statement.{statement}
+use Rattle.decoder.proofs.code_map.decode.Tie as tie
+
+abbrev keys : List ℕ
+keys = 14 ∷ 13 ∷ 12 ∷ 11 ∷ 10 ∷ 9 ∷ 8 ∷ 7 ∷ 6 ∷ 5 ∷ 4 ∷ 3 ∷ 2 ∷ 1 ∷ 0 ∷ []
+
+cast-n : tie.Need-cast-n
+cast-n c = search needs
+
+cast-m : tie.Need-cast-m
+cast-m c = search needs
+
+cast-low4 : tie.Need-cast-low4
+cast-low4 c = search needs
+
+cast-low8 : tie.Need-cast-low8
+cast-low8 c = search needs
+
+group-0-requires : tie.Need-group-0-requires
+group-0-requires c κs = search needs
+
+group-2-requires : tie.Need-group-2-requires
+group-2-requires c κs = search needs
+
+group-3-requires : tie.Need-group-3-requires
+group-3-requires c κs = search needs
+
+group-4-requires : tie.Need-group-4-requires
+group-4-requires c κs = search needs
+
+group-6-requires : tie.Need-group-6-requires
+group-6-requires c κs = search needs
+
+group-8-requires : tie.Need-group-8-requires
+group-8-requires c κs = search needs
+
+group-c-requires : tie.Need-group-c-requires
+group-c-requires c κs = search needs
+
+returns : tie.Need-returns
+returns c = search needs
+
+returns-2 : tie.Need-returns-2
+unfolding meaning
+returns-2 c = rw (c .match .keys2)
+
+returns-3 : tie.Need-returns-3
+returns-3 c = search needs
+
+returns-4 : tie.Need-returns-4
+returns-4 c = search needs
+
+returns-5 : tie.Need-returns-5
+returns-5 c = search needs
+
+returns-6 : tie.Need-returns-6
+unfolding meaning
+returns-6 c = rw (c .match .keys6)
+
+returns-7 : tie.Need-returns-7
+returns-7 c = search needs
+
+returns-8 : tie.Need-returns-8
+unfolding meaning
+returns-8 c = rw (c .match .keys8, last-two)
+
+returns-9 : tie.Need-returns-9
+returns-9 c = search needs
+
+returns-10 : tie.Need-returns-10
+unfolding meaning
+returns-10 c = rw (c .match .keys10, last-two)
+
+returns-11 : tie.Need-returns-11
+unfolding meaning
+returns-11 c = rw (c .match .keys11, last-three)
+
+returns-12 : tie.Need-returns-12
+unfolding meaning
+returns-12 c = rw (c .match .keys12, last-three)
+
+returns-13 : tie.Need-returns-13
+returns-13 c = search needs
+
+returns-14 : tie.Need-returns-14
+unfolding meaning
+returns-14 c = rw (c .match .keys14, last-two)
+
+returns-15 : tie.Need-returns-15
+unfolding meaning
+returns-15 c = rw (c .match .keys15, last-two)
+
+returns-16 : tie.Need-returns-16
+unfolding table
+returns-16 c = undefined (none-of keys) anything anything anything _ (no-key keys _ (c .match .rest)) tt tt tt tt
+
+pub decode-spec : {M : Type 1} → statement M
+decode-spec =
+    tie.close
+    (tie.spec
+    cast-n
+    cast-m
+    cast-low4
+    cast-low8
+    group-0-requires
+    group-2-requires
+    group-3-requires
+    group-4-requires
+    group-6-requires
+    group-8-requires
+    group-c-requires
+    returns
+    returns-2
+    returns-3
+    returns-4
+    returns-5
+    returns-6
+    returns-7
+    returns-8
+    returns-9
+    returns-10
+    returns-11
+    returns-12
+    returns-13
+    returns-14
+    returns-15
+    returns-16)

@@ -1,0 +1,31 @@
+-- `group_0_3` gives the table's meaning: each arm is the row of its nibbles, and what the default arm knows rules out every row.
+-- Assumes nothing.
+use mathlib.Core.List.{List, [], _∷_}
+use Prim.Native.Nat.{ℕ}
+use borrow.Author.Needs.{needs}
+use Rattle.decoder.specs.Code.{meaning}
+use Rattle.decoder.specs.Table.{table}
+use Rattle.decoder.proofs.Default.{is, none-of, anything, known, no-key, undefined}
+use Rattle.decoder.proofs.code_map.group_0_3.Statement.{statement}
+use Rattle.decoder.proofs.code_map.group_0_3.Tie as tie
+
+abbrev keys : List ℕ
+keys = 2 ∷ 0 ∷ []
+
+cast-m : tie.Need-cast-m
+cast-m c = search needs
+
+returns : tie.Need-returns
+unfolding meaning
+returns c = rw (c .before .pre .0, c .before .pre .1, c .match .keys1)
+
+returns-2 : tie.Need-returns-2
+unfolding meaning
+returns-2 c = rw (c .before .pre .0, c .before .pre .1, c .match .keys2)
+
+returns-3 : tie.Need-returns-3
+unfolding table
+returns-3 c = undefined (is 0) anything (none-of keys) (is 3) _ (known (c .before .pre .0)) tt (no-key keys _ (c .match .rest)) (known (c .before .pre .1)) tt
+
+pub group-0-3-spec : {M : Type 1} → statement M
+group-0-3-spec = tie.close (tie.spec cast-m returns returns-2 returns-3)

@@ -1,0 +1,35 @@
+-- `group_0_b` gives the table's meaning: each arm is the row of its nibbles, and what the default arm knows rules out every row.
+-- Assumes nothing.
+use mathlib.Core.List.{List, [], _∷_}
+use Prim.Native.Nat.{ℕ}
+use Rattle.decoder.specs.Code.{meaning}
+use Rattle.decoder.specs.Table.{table}
+use Rattle.decoder.proofs.Default.{is, none-of, anything, known, no-key, undefined}
+use Rattle.decoder.proofs.code_map.group_0_b.Statement.{statement}
+use Rattle.decoder.proofs.code_map.group_0_b.Tie as tie
+
+abbrev keys : List ℕ
+keys = 2 ∷ 1 ∷ 0 ∷ []
+
+returns : tie.Need-returns
+unfolding table
+returns c = undefined (is 0) (none-of (0 ∷ [])) anything (is 11) _ (known (c .before .pre .0)) (no-key (0 ∷ []) _ (tt, c .if1 .taken)) tt (known (c .before .pre .1)) tt
+
+returns-2 : tie.Need-returns-2
+unfolding meaning
+returns-2 c = rw (c .before .before .pre .0, c .before .before .pre .1, c .before .if1 .left, c .match .keys1)
+
+returns-3 : tie.Need-returns-3
+unfolding meaning
+returns-3 c = rw (c .before .before .pre .0, c .before .before .pre .1, c .before .if1 .left, c .match .keys2)
+
+returns-4 : tie.Need-returns-4
+unfolding meaning
+returns-4 c = rw (c .before .before .pre .0, c .before .before .pre .1, c .before .if1 .left, c .match .keys3)
+
+returns-5 : tie.Need-returns-5
+unfolding table
+returns-5 c = undefined (is 0) anything (none-of keys) (is 11) _ (known (c .before .before .pre .0)) tt (no-key keys _ (c .match .rest)) (known (c .before .before .pre .1)) tt
+
+pub group-0-b-spec : {M : Type 1} → statement M
+group-0-b-spec = tie.close (tie.spec returns returns-2 returns-3 returns-4 returns-5)

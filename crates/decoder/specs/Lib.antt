@@ -1,0 +1,3 @@
+pub mod Pattern
+pub mod Table
+pub mod Code

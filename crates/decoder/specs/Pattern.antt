@@ -1,0 +1,84 @@
+-- A code pattern of document 000, as "0011nnnnmmmm1100": what it fixes of a word, and what it reads from one.
+-- Section 5.1: nnnn is the destination register, mmmm the source register, iiii an immediate, dddd a displacement.
+use mathlib.Core.Bool.{Bool, true, false, _&&_, _||_}
+use mathlib.Core.List.{List, [], _∷_}
+use Prim.Native.Nat.{ℕ, _+_, _*_, _/_, _%_}
+use Prim.Native.String.{String, slice}
+use lib.Dec.{eqb}
+use lib.Text.{eqt}
+
+abbrev pub pick {ℓ} : {A : Type ℓ} → Bool → A → A → A
+pick true a b = a
+pick false a b = b
+
+-- Four characters of a pattern: a number in binary, or part of a field, named by its letters.
+pub data Group : Type 0 where
+  fixed : ℕ → Group
+  part : String → Group
+
+abbrev pub bit : String → ℕ → ℕ
+bit s k = pick (eqt (slice s k (k + 1)) "1") 1 0
+
+abbrev pub group : String → Group
+group s =
+    pick (eqt s "nnnn" || eqt s "mmmm" || eqt s "iiii" || eqt s "dddd") (part s)
+    (fixed (bit s 0 * 8 + bit s 1 * 4 + bit s 2 * 2 + bit s 3))
+
+-- The sixteen characters, as four groups: bits 15 to 12, 11 to 8, 7 to 4 and 3 to 0.
+pub record Code : Type 0 where
+  pub top : Group
+  pub second : Group
+  pub third : Group
+  pub last : Group
+
+abbrev pub code : String → Code
+code s =
+    record {
+      top = group (slice s 0 4);
+      second = group (slice s 4 8);
+      third = group (slice s 8 12);
+      last = group (slice s 12 16);
+    }
+
+abbrev pub agrees : Group → ℕ → Bool
+agrees (fixed k) x = eqb x k
+agrees (part s) x = true
+
+-- A word matches where each fixed group is the word's own four bits (in the order of Table A.51: top, last, then the middle).
+abbrev pub matches : Code → ℕ → Bool
+matches c w =
+    agrees (c .top) (w / 4096) && (agrees (c .last) (w % 16) && (agrees (c .third) (w / 16 % 16) && agrees (c .second) (w / 256 % 16)))
+
+-- A field is the number that the word's bits under its letters make.
+abbrev pub under : String → Group → ℕ → List ℕ → List ℕ
+under l (fixed k) x rest = rest
+under l (part s) x rest = pick (eqt s l) (x ∷ rest) rest
+
+abbrev pub onward : ℕ → List ℕ → ℕ
+onward a [] = a
+onward a (x ∷ rest) = onward (a * 16 + x) rest
+
+abbrev pub number : List ℕ → ℕ
+number [] = 0
+number (x ∷ rest) = onward x rest
+
+abbrev pub field : String → Code → ℕ → ℕ
+field l c w =
+    number
+    (under l (c .top) (w / 4096)
+    (under l (c .second) (w / 256 % 16) (under l (c .third) (w / 16 % 16) (under l (c .last) (w % 16) []))))
+
+pub record Fields : Type 0 where
+  pub n : ℕ
+  pub m : ℕ
+  pub i : ℕ
+  pub d : ℕ
+
+abbrev pub fields : Code → ℕ → Fields
+fields c w =
+    record {
+      n = field "nnnn" c w;
+      m = field "mmmm" c w;
+      i = field "iiii" c w;
+      d = field "dddd" c w;
+    }
