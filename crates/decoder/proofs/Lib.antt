@@ -1,3 +1,3 @@
-pub mod Default
+pub mod Arms
 pub mod Digits
 pub mod Rows

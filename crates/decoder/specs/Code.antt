@@ -1,22 +1,21 @@
 -- The meaning of a word: what the row that matches it says. A word that no row matches is undefined.
-use mathlib.Core.List.{List, [], _∷_}
 use mathlib.Core.Bool.{Bool}
+use mathlib.Core.List.{List, [], _∷_}
 use Prim.Native.Nat.{ℕ}
-use Rattle.decoder.specs.Pattern.{pick, code, fields, matches}
+use Rattle.decoder.specs.Pattern.{Nibbles, nibbles, code, fields, matches, pick}
 use Rattle.decoder.specs.Table.{Row, table}
 use Rattle.decoder.specs.declared.meaning.Meaning.{Meaning}
 use Rattle.decoder.specs.declared.meaning.Meaning.the-variants.{Undefined}
 
-unfoldable pub rowMatches : Row → ℕ → Bool
-rowMatches r w = matches (code (r .pattern)) w
+abbrev pub rowMatches : Nibbles → Row → Bool
+rowMatches w r = matches (code (r .pattern)) w
 
-unfoldable pub rowMeans : Row → ℕ → Meaning
-rowMeans r w = r .means (fields (code (r .pattern)) w)
+abbrev pub rowMeans : Nibbles → Row → Meaning
+rowMeans w r = r .means (fields (code (r .pattern)) w)
 
-unfoldable pub among : List Row → ℕ → Meaning
+unfoldable pub among : List Row → Nibbles → Meaning
 among [] w = Undefined
-among (r ∷ rest) w = pick (rowMatches r w) (rowMeans r w) (among rest w)
+among (r ∷ rest) w = pick (rowMatches w r) (rowMeans w r) (among rest w)
 
 unfoldable pub meaning : ℕ → Meaning
-unfolding among rowMatches rowMeans table
-meaning w = among table w
+meaning w = among table (nibbles w)

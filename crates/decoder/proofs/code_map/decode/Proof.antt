@@ -1,11 +1,12 @@
 -- `decode` gives the table's meaning: each arm is the row of its nibbles or the group's own function, and what the default arm knows rules out every row.
 -- Assumes nothing.
+use mathlib.Core.Path.{refl}
 use mathlib.Core.List.{List, [], _∷_}
 use Prim.Native.Nat.{ℕ}
 use borrow.Author.Needs.{needs}
-use Rattle.decoder.specs.Code.{meaning}
+use Rattle.decoder.specs.Code.{among}
 use Rattle.decoder.specs.Table.{table}
-use Rattle.decoder.proofs.Default.{none-of, anything, no-key, undefined}
+use Rattle.decoder.proofs.Arms.{arm, none-of, anything, no-key, undefined}
 use Rattle.decoder.proofs.Digits.{last-two, last-three}
 use Rattle.decoder.proofs.code_map.decode.Statement.{statement}
 use Rattle.decoder.proofs.code_map.decode.Tie as tie
@@ -50,8 +51,8 @@ returns : tie.Need-returns
 returns c = search needs
 
 returns-2 : tie.Need-returns-2
-unfolding meaning
-returns-2 c = rw (c .match .keys2)
+unfolding among table
+returns-2 c = arm _ (c .match .keys2) refl refl refl refl
 
 returns-3 : tie.Need-returns-3
 returns-3 c = search needs
@@ -63,41 +64,41 @@ returns-5 : tie.Need-returns-5
 returns-5 c = search needs
 
 returns-6 : tie.Need-returns-6
-unfolding meaning
-returns-6 c = rw (c .match .keys6)
+unfolding among table
+returns-6 c = arm _ (c .match .keys6) refl refl refl refl
 
 returns-7 : tie.Need-returns-7
 returns-7 c = search needs
 
 returns-8 : tie.Need-returns-8
-unfolding meaning
-returns-8 c = rw (c .match .keys8, last-two)
+unfolding among table
+returns-8 c = arm _ (c .match .keys8) refl refl refl (rw last-two)
 
 returns-9 : tie.Need-returns-9
 returns-9 c = search needs
 
 returns-10 : tie.Need-returns-10
-unfolding meaning
-returns-10 c = rw (c .match .keys10, last-two)
+unfolding among table
+returns-10 c = arm _ (c .match .keys10) refl refl refl (rw last-two)
 
 returns-11 : tie.Need-returns-11
-unfolding meaning
-returns-11 c = rw (c .match .keys11, last-three)
+unfolding among table
+returns-11 c = arm _ (c .match .keys11) refl refl refl (rw last-three)
 
 returns-12 : tie.Need-returns-12
-unfolding meaning
-returns-12 c = rw (c .match .keys12, last-three)
+unfolding among table
+returns-12 c = arm _ (c .match .keys12) refl refl refl (rw last-three)
 
 returns-13 : tie.Need-returns-13
 returns-13 c = search needs
 
 returns-14 : tie.Need-returns-14
-unfolding meaning
-returns-14 c = rw (c .match .keys14, last-two)
+unfolding among table
+returns-14 c = arm _ (c .match .keys14) refl refl refl (rw last-two)
 
 returns-15 : tie.Need-returns-15
-unfolding meaning
-returns-15 c = rw (c .match .keys15, last-two)
+unfolding among table
+returns-15 c = arm _ (c .match .keys15) refl refl refl (rw last-two)
 
 returns-16 : tie.Need-returns-16
 unfolding table

@@ -1,11 +1,12 @@
 -- `group_0_3` gives the table's meaning: each arm is the row of its nibbles, and what the default arm knows rules out every row.
 -- Assumes nothing.
+use mathlib.Core.Path.{refl}
 use mathlib.Core.List.{List, [], _∷_}
 use Prim.Native.Nat.{ℕ}
 use borrow.Author.Needs.{needs}
-use Rattle.decoder.specs.Code.{meaning}
+use Rattle.decoder.specs.Code.{among}
 use Rattle.decoder.specs.Table.{table}
-use Rattle.decoder.proofs.Default.{is, none-of, anything, known, no-key, undefined}
+use Rattle.decoder.proofs.Arms.{arm, is, none-of, anything, known, no-key, undefined}
 use Rattle.decoder.proofs.code_map.group_0_3.Statement.{statement}
 use Rattle.decoder.proofs.code_map.group_0_3.Tie as tie
 
@@ -16,12 +17,12 @@ cast-m : tie.Need-cast-m
 cast-m c = search needs
 
 returns : tie.Need-returns
-unfolding meaning
-returns c = rw (c .before .pre .0, c .before .pre .1, c .match .keys1)
+unfolding among table
+returns c = arm _ (c .before .pre .0) refl (c .match .keys1) (c .before .pre .1) refl
 
 returns-2 : tie.Need-returns-2
-unfolding meaning
-returns-2 c = rw (c .before .pre .0, c .before .pre .1, c .match .keys2)
+unfolding among table
+returns-2 c = arm _ (c .before .pre .0) refl (c .match .keys2) (c .before .pre .1) refl
 
 returns-3 : tie.Need-returns-3
 unfolding table

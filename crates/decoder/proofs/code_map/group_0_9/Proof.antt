@@ -1,11 +1,12 @@
 -- `group_0_9` gives the table's meaning: each arm is the row of its nibbles, and what the default arm knows rules out every row.
 -- Assumes nothing.
+use mathlib.Core.Path.{refl}
 use mathlib.Core.List.{List, [], _∷_}
 use Prim.Native.Nat.{ℕ}
 use borrow.Author.Needs.{needs}
-use Rattle.decoder.specs.Code.{meaning}
+use Rattle.decoder.specs.Code.{among}
 use Rattle.decoder.specs.Table.{table}
-use Rattle.decoder.proofs.Default.{is, none-of, anything, known, no-key, undefined}
+use Rattle.decoder.proofs.Arms.{arm, is, none-of, anything, known, no-key, undefined}
 use Rattle.decoder.proofs.code_map.group_0_9.Statement.{statement}
 use Rattle.decoder.proofs.code_map.group_0_9.Tie as tie
 
@@ -16,20 +17,20 @@ cast-t7 : tie.Need-cast-t7
 cast-t7 c = search needs
 
 returns : tie.Need-returns
-unfolding meaning
-returns c = rw (c .before .pre .0, c .before .pre .1, c .if1 .taken)
+unfolding among table
+returns c = arm _ (c .before .pre .0) refl (c .if1 .taken) (c .before .pre .1) refl
 
 returns-2 : tie.Need-returns-2
 unfolding table
 returns-2 c = undefined (is 0) (none-of (0 ∷ [])) (none-of (2 ∷ [])) (is 9) _ (known (c .before .before .pre .0)) (no-key (0 ∷ []) _ (tt, c .if2 .taken)) (no-key (2 ∷ []) _ (tt, c .before .if1 .left)) (known (c .before .before .pre .1)) tt
 
 returns-3 : tie.Need-returns-3
-unfolding meaning
-returns-3 c = rw (c .before .before .before .pre .0, c .before .before .before .pre .1, c .before .if2 .left, c .match .keys1)
+unfolding among table
+returns-3 c = arm _ (c .before .before .before .pre .0) (c .before .if2 .left) (c .match .keys1) (c .before .before .before .pre .1) refl
 
 returns-4 : tie.Need-returns-4
-unfolding meaning
-returns-4 c = rw (c .before .before .before .pre .0, c .before .before .before .pre .1, c .before .if2 .left, c .match .keys2)
+unfolding among table
+returns-4 c = arm _ (c .before .before .before .pre .0) (c .before .if2 .left) (c .match .keys2) (c .before .before .before .pre .1) refl
 
 returns-5 : tie.Need-returns-5
 unfolding table

@@ -1,11 +1,12 @@
 -- `group_0_a` gives the table's meaning: each arm is the row of its nibbles, and what the default arm knows rules out every row.
 -- Assumes nothing.
+use mathlib.Core.Path.{refl}
 use mathlib.Core.List.{List, [], _∷_}
 use Prim.Native.Nat.{ℕ}
 use borrow.Author.Needs.{needs}
-use Rattle.decoder.specs.Code.{meaning}
+use Rattle.decoder.specs.Code.{among}
 use Rattle.decoder.specs.Table.{table}
-use Rattle.decoder.proofs.Default.{is, none-of, anything, known, no-key, undefined}
+use Rattle.decoder.proofs.Arms.{arm, is, none-of, anything, known, no-key, undefined}
 use Rattle.decoder.proofs.code_map.group_0_a.Statement.{statement}
 use Rattle.decoder.proofs.code_map.group_0_a.Tie as tie
 
@@ -16,16 +17,16 @@ cast-n : tie.Need-cast-n
 cast-n c = search needs
 
 returns : tie.Need-returns
-unfolding meaning
-returns c = rw (c .before .pre .0, c .before .pre .1, c .match .keys1)
+unfolding among table
+returns c = arm _ (c .before .pre .0) refl (c .match .keys1) (c .before .pre .1) refl
 
 returns-2 : tie.Need-returns-2
-unfolding meaning
-returns-2 c = rw (c .before .pre .0, c .before .pre .1, c .match .keys2)
+unfolding among table
+returns-2 c = arm _ (c .before .pre .0) refl (c .match .keys2) (c .before .pre .1) refl
 
 returns-3 : tie.Need-returns-3
-unfolding meaning
-returns-3 c = rw (c .before .pre .0, c .before .pre .1, c .match .keys3)
+unfolding among table
+returns-3 c = arm _ (c .before .pre .0) refl (c .match .keys3) (c .before .pre .1) refl
 
 returns-4 : tie.Need-returns-4
 unfolding table

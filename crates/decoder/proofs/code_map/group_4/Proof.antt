@@ -1,11 +1,12 @@
 -- `group_4` gives the table's meaning: each arm is the row of its nibbles or the group's own function, and what the default arm knows rules out every row.
 -- Assumes nothing.
+use mathlib.Core.Path.{refl}
 use mathlib.Core.List.{List, [], _∷_}
 use Prim.Native.Nat.{ℕ}
 use borrow.Author.Needs.{needs}
-use Rattle.decoder.specs.Code.{meaning}
+use Rattle.decoder.specs.Code.{among}
 use Rattle.decoder.specs.Table.{table}
-use Rattle.decoder.proofs.Default.{is, none-of, anything, known, no-key, undefined}
+use Rattle.decoder.proofs.Arms.{arm, is, none-of, anything, known, no-key, undefined}
 use Rattle.decoder.proofs.code_map.group_4.Statement.{statement}
 use Rattle.decoder.proofs.code_map.group_4.Tie as tie
 
@@ -19,8 +20,8 @@ cast-m : tie.Need-cast-m
 cast-m c = search needs
 
 returns : tie.Need-returns
-unfolding meaning
-returns c = rw (c .before .pre, c .if1 .taken)
+unfolding among table
+returns c = arm _ (c .before .pre) refl refl (c .if1 .taken) refl
 
 group-4-0-requires : tie.Need-group-4-0-requires
 group-4-0-requires c κs = search needs

@@ -1,11 +1,12 @@
 -- `group_8` gives the table's meaning: each arm is the row of its nibbles, and what the default arm knows rules out every row.
 -- Assumes nothing.
+use mathlib.Core.Path.{refl}
 use mathlib.Core.List.{List, [], _∷_}
 use Prim.Native.Nat.{ℕ}
 use borrow.Author.Needs.{needs}
-use Rattle.decoder.specs.Code.{meaning}
+use Rattle.decoder.specs.Code.{among}
 use Rattle.decoder.specs.Table.{table}
-use Rattle.decoder.proofs.Default.{is, none-of, anything, known, no-key, undefined}
+use Rattle.decoder.proofs.Arms.{arm, is, none-of, anything, known, no-key, undefined}
 use Rattle.decoder.proofs.Digits.{last-two}
 use Rattle.decoder.proofs.code_map.group_8.Statement.{statement}
 use Rattle.decoder.proofs.code_map.group_8.Tie as tie
@@ -23,40 +24,40 @@ cast-low8 : tie.Need-cast-low8
 cast-low8 c = search needs
 
 returns : tie.Need-returns
-unfolding meaning
-returns c = rw (c .before .pre, c .match .keys1)
+unfolding among table
+returns c = arm _ (c .before .pre) (c .match .keys1) refl refl refl
 
 returns-2 : tie.Need-returns-2
-unfolding meaning
-returns-2 c = rw (c .before .pre, c .match .keys2)
+unfolding among table
+returns-2 c = arm _ (c .before .pre) (c .match .keys2) refl refl refl
 
 returns-3 : tie.Need-returns-3
-unfolding meaning
-returns-3 c = rw (c .before .pre, c .match .keys3)
+unfolding among table
+returns-3 c = arm _ (c .before .pre) (c .match .keys3) refl refl refl
 
 returns-4 : tie.Need-returns-4
-unfolding meaning
-returns-4 c = rw (c .before .pre, c .match .keys4)
+unfolding among table
+returns-4 c = arm _ (c .before .pre) (c .match .keys4) refl refl refl
 
 returns-5 : tie.Need-returns-5
-unfolding meaning
-returns-5 c = rw (c .before .pre, c .match .keys5, last-two)
+unfolding among table
+returns-5 c = arm _ (c .before .pre) (c .match .keys5) refl refl (rw last-two)
 
 returns-6 : tie.Need-returns-6
-unfolding meaning
-returns-6 c = rw (c .before .pre, c .match .keys6, last-two)
+unfolding among table
+returns-6 c = arm _ (c .before .pre) (c .match .keys6) refl refl (rw last-two)
 
 returns-7 : tie.Need-returns-7
-unfolding meaning
-returns-7 c = rw (c .before .pre, c .match .keys7, last-two)
+unfolding among table
+returns-7 c = arm _ (c .before .pre) (c .match .keys7) refl refl (rw last-two)
 
 returns-8 : tie.Need-returns-8
-unfolding meaning
-returns-8 c = rw (c .before .pre, c .match .keys8, last-two)
+unfolding among table
+returns-8 c = arm _ (c .before .pre) (c .match .keys8) refl refl (rw last-two)
 
 returns-9 : tie.Need-returns-9
-unfolding meaning
-returns-9 c = rw (c .before .pre, c .match .keys9, last-two)
+unfolding among table
+returns-9 c = arm _ (c .before .pre) (c .match .keys9) refl refl (rw last-two)
 
 returns-10 : tie.Need-returns-10
 unfolding table

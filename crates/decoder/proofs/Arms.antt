@@ -1,16 +1,24 @@
--- The default arms of the code map: where what is known of a word's nibbles rules out every row, the word is undefined.
+-- The arms of the code map: from what an arm knows of a word's nibbles to the word's meaning.
 -- Assumes nothing.
 use mathlib.Core.Path.{_≡_, sym, subst}
 use mathlib.Core.Bool.{Bool, true, false, _&&_, _||_, not, and-false}
 use mathlib.Core.List.{List, [], _∷_}
 use Prim.Native.Nat.{ℕ, _/_, _%_}
-use borrow.Author.Tests.{ne-eqb, eq-eqb}
+use borrow.Author.Tests.{ne-eqb}
 use lib.Dec.{T, T-not, eqb, eqb-refl}
-use Rattle.decoder.specs.Pattern.{Group, fixed, part, Code, agrees, code, matches}
-use Rattle.decoder.specs.Code.{meaning, among, rowMatches}
+use Rattle.decoder.specs.Pattern.{Group, fixed, part, Code, Nibbles, nibbles, agrees, code, matches}
+use Rattle.decoder.specs.Code.{meaning, among}
 use Rattle.decoder.specs.Table.{Row, table}
+use Rattle.decoder.specs.declared.meaning.Meaning.{Meaning}
 use Rattle.decoder.specs.declared.meaning.Meaning.the-variants.{Undefined}
 use Rattle.decoder.proofs.Rows.{every, none-among}
+
+-- An arm that knows some nibbles gives the meaning that the table has at these nibbles.
+pub arm :
+    {x : Meaning} {t s h l : ℕ} (w : ℕ) → w / 4096 ≡ t → w / 256 % 16 ≡ s → w / 16 % 16 ≡ h → w % 16 ≡ l →
+    x ≡ among table (record { top = t; second = s; third = h; last = l }) → x ≡ meaning w
+unfolding meaning
+arm w top second third last e = rw (top, second, third, last) e
 
 -- What is known of a nibble, as the test that it passes: its value, that it is none of some keys, or nothing.
 abbrev pub is : ℕ → ℕ → Bool
@@ -43,13 +51,15 @@ ruled-out : (may : ℕ → Bool) (g : Group) (x : ℕ) → T (may x) → T (excl
 ruled-out may (fixed k) x h t = ne-eqb x k (λ e. T-not (may k) t (subst (λ (y : ℕ). T (may y)) e h))
 ruled-out may (part s) x h t = absurd t
 
--- A part that is false where a test passes makes the conjunction false, whichever test it is.
-no-match : (a b c d p q r s : Bool) → (T p → a ≡ false) → (T q → b ≡ false) → (T r → c ≡ false) → (T s → d ≡ false) → T (p || (q || (r || s))) → (a && (b && (c && d))) ≡ false
+no-match :
+    (a b c d p q r s : Bool) → (T p → a ≡ false) → (T q → b ≡ false) → (T r → c ≡ false) → (T s → d ≡ false) →
+    T (p || (q || (r || s))) → (a && (b && (c && d))) ≡ false
 no-match a b c d true q r s f g h k t = rw (f tt)
 no-match a b c d false true r s f g h k t = rw (g tt, and-false)
 no-match a b c d false false true s f g h k t = rw (h tt, and-false, and-false)
 no-match a b c d false false false s f g h k t = rw (k t) (simp and-false)
 
+-- A default arm whose knowledge rules out every row stands at an undefined word.
 module _ (top second third last : ℕ → Bool) where
   abbrev silent : Code → Bool
   silent c = excludes top (c .top) || (excludes last (c .last) || (excludes third (c .third) || excludes second (c .second)))
@@ -59,7 +69,7 @@ module _ (top second third last : ℕ → Bool) where
 
   module _
       (w : ℕ) (t : T (top (w / 4096))) (s : T (second (w / 256 % 16))) (h : T (third (w / 16 % 16))) (l : T (last (w % 16))) where
-    unmatched : (c : Code) → T (silent c) → matches c w ≡ false
+    unmatched : (c : Code) → T (silent c) → matches c (nibbles w) ≡ false
     unmatched c =
         no-match _ _ _ _ (excludes top (c .top)) (excludes last (c .last)) (excludes third (c .third)) (excludes second (c .second))
         (ruled-out top (c .top) (w / 4096) t)
@@ -69,4 +79,4 @@ module _ (top second third last : ℕ → Bool) where
 
     pub undefined : T (every silentRow table) → Undefined ≡ meaning w
     unfolding meaning
-    undefined t = sym (none-among w silentRow (λ r. unmatched (code (r .pattern))) table t)
+    undefined t = sym (none-among (nibbles w) silentRow (λ r. unmatched (code (r .pattern))) table t)
