@@ -1,4 +1,4 @@
 pub mod Pattern
 pub mod Table
 pub mod Code
-pub mod Number
+pub mod Slot
