@@ -1,7 +1,7 @@
 -- The arms of the code map: from what an arm knows of a word's nibbles to the word's meaning.
 -- Assumes nothing.
 use mathlib.Core.Path.{_≡_, sym, subst}
-use mathlib.Core.Bool.{Bool, true, false, _&&_, _||_, not, and-false}
+use mathlib.Core.Bool.{Bool, true, false, _&&_, _||_, not}
 use mathlib.Core.List.{List, [], _∷_}
 use Prim.Native.Nat.{ℕ, _/_, _%_}
 use borrow.Author.Tests.{ne-eqb}
@@ -11,6 +11,7 @@ use Rattle.decoder.specs.Code.{meaning, among}
 use Rattle.decoder.specs.Table.{Row, table}
 use Rattle.decoder.specs.declared.meaning.Meaning.{Meaning}
 use Rattle.decoder.specs.declared.meaning.Meaning.the-variants.{Undefined}
+use Rattle.decoder.proofs.Conjunction.{one-fails}
 use Rattle.decoder.proofs.Rows.{every, none-among}
 
 -- An arm that knows some nibbles gives the meaning that the table has at these nibbles.
@@ -51,14 +52,6 @@ ruled-out : (may : ℕ → Bool) (g : Group) (x : ℕ) → T (may x) → T (excl
 ruled-out may (fixed k) x h t = ne-eqb x k (λ e. T-not (may k) t (subst (λ (y : ℕ). T (may y)) e h))
 ruled-out may (part s) x h t = absurd t
 
-no-match :
-    (a b c d p q r s : Bool) → (T p → a ≡ false) → (T q → b ≡ false) → (T r → c ≡ false) → (T s → d ≡ false) →
-    T (p || (q || (r || s))) → (a && (b && (c && d))) ≡ false
-no-match a b c d true q r s f g h k t = rw (f tt)
-no-match a b c d false true r s f g h k t = rw (g tt, and-false)
-no-match a b c d false false true s f g h k t = rw (h tt, and-false, and-false)
-no-match a b c d false false false s f g h k t = rw (k t) (simp and-false)
-
 -- A default arm whose knowledge rules out every row stands at an undefined word.
 module _ (top second third last : ℕ → Bool) where
   abbrev silent : Code → Bool
@@ -71,7 +64,7 @@ module _ (top second third last : ℕ → Bool) where
       (w : ℕ) (t : T (top (w / 4096))) (s : T (second (w / 256 % 16))) (h : T (third (w / 16 % 16))) (l : T (last (w % 16))) where
     unmatched : (c : Code) → T (silent c) → matches c (nibbles w) ≡ false
     unmatched c =
-        no-match _ _ _ _ (excludes top (c .top)) (excludes last (c .last)) (excludes third (c .third)) (excludes second (c .second))
+        one-fails _ _ _ _ (excludes top (c .top)) (excludes last (c .last)) (excludes third (c .third)) (excludes second (c .second))
         (ruled-out top (c .top) (w / 4096) t)
         (ruled-out last (c .last) (w % 16) l)
         (ruled-out third (c .third) (w / 16 % 16) h)

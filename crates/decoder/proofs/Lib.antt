@@ -1,3 +1,5 @@
 pub mod Arms
+pub mod Conjunction
 pub mod Digits
 pub mod Rows
+pub mod Table

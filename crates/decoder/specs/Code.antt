@@ -1,7 +1,7 @@
 -- The meaning of a word: what the row that matches it says. A word that no row matches is undefined.
-use mathlib.Core.Bool.{Bool}
+use mathlib.Core.Bool.{Bool, true, false}
 use mathlib.Core.List.{List, [], _∷_}
-use Prim.Native.Nat.{ℕ}
+use Prim.Native.Nat.{ℕ, suc}
 use Rattle.decoder.specs.Pattern.{Nibbles, nibbles, code, fields, matches, pick}
 use Rattle.decoder.specs.Table.{Row, table}
 use Rattle.decoder.specs.declared.meaning.Meaning.{Meaning}
@@ -19,3 +19,12 @@ among (r ∷ rest) w = pick (rowMatches w r) (rowMeans w r) (among rest w)
 
 unfoldable pub meaning : ℕ → Meaning
 meaning w = among table (nibbles w)
+
+-- How many of some rows match a word.
+abbrev pub counted : Bool → ℕ → ℕ
+counted true k = suc k
+counted false k = k
+
+abbrev pub howMany : List Row → Nibbles → ℕ
+howMany [] w = 0
+howMany (r ∷ rest) w = counted (rowMatches w r) (howMany rest w)

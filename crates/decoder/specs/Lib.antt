@@ -2,3 +2,4 @@ pub mod Pattern
 pub mod Table
 pub mod Code
 pub mod Slot
+pub mod Widths

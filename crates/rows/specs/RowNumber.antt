@@ -1,5 +1,9 @@
 -- The row number of an instruction: the place of its row in the code table, counted from 0, and 142 for an undefined word.
-use Prim.Native.Nat.{ℕ}
+use mathlib.Core.List.{List, [], _∷_}
+use Prim.Native.Nat.{ℕ, suc}
+use Rattle.decoder.specs.Pattern.{Nibbles, pick}
+use Rattle.decoder.specs.Code.{rowMatches}
+use Rattle.decoder.specs.Table.{Row}
 use Rattle.decoder.specs.declared.meaning.Meaning.{Meaning}
 use Rattle.decoder.specs.declared.meaning.Meaning.the-variants.{Undefined, NoOperand, OneRegister, CompareZero, TwoRegisters, Compare, Divide, Multiply, MultiplyAdd, Immediate, ImmediateR0, ImmediateByte, Load, LoadIncrement, Store, StoreDecrement, Relative, LoadControl, LoadControlLong, StoreControl, StoreControlLong, TasB, BranchIf, Branch, BranchTo, Return, Trapa}
 use Rattle.decoder.specs.declared.meaning.NoOperand.the-variants.{Clrmac, Clrt, Div0u, Nop, Sett, Sleep}
@@ -22,6 +26,12 @@ use Rattle.decoder.specs.declared.meaning.Branch.the-variants.{Bra, Bsr}
 use Rattle.decoder.specs.declared.meaning.BranchTo.the-variants.{Braf, Bsrf, Jmp, Jsr}
 use Rattle.decoder.specs.declared.meaning.Return.the-variants.{Rte, Rts}
 
+-- The place of the row that matches a word, where the first of the rows has the place k.
+abbrev pub placeFrom : ℕ → List Row → Nibbles → ℕ
+placeFrom k [] w = k
+placeFrom k (r ∷ rest) w = pick (rowMatches w r) k (placeFrom (suc k) rest w)
+
+-- The same, told from the meaning alone.
 abbrev pub rowNumber : Meaning → ℕ
 rowNumber (Immediate AddImm i n) = 0
 rowNumber (TwoRegisters Add m n) = 1
