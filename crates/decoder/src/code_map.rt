@@ -125,12 +125,12 @@ fn group_0_9(word: u16) -> Meaning
     requires { ⌜ (word / 4096 ≡ 0) × (word % 16 ≡ 9) ⌝ }
     ensures { λ r. ⌜ r ≡ meaning word ⌝ }
 {
-    let second = word / 256 % 16;
+    let n = word / 256 % 16;
     let third = word / 16 % 16;
     if third == 2 {
-        return Meaning::OneRegister(OneRegister::Movt, second as u8);
+        return Meaning::OneRegister(OneRegister::Movt, n as u8);
     }
-    if second != 0 {
+    if n != 0 {
         return Meaning::Undefined;
     }
     match third {
