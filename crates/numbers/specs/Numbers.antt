@@ -1,0 +1,41 @@
+-- How the manual's operations read the bits of a register: as a number below 2^32, or as a signed one (document 000, section 3.1).
+use mathlib.Core.Bool.{Bool, true, false, _||_}
+use Prim.Native.Nat.{ℕ, suc, _+_, _-_, _%_, _^_}
+use lib.Dec.{ltb}
+use lib.IntN.{ℤ, pos, negsuc, subℕ}
+use lib.Signed.{ltZ}
+
+abbrev pub pick {ℓ} : {A : Type ℓ} → Bool → A → A → A
+pick true a b = a
+pick false a b = b
+
+-- A bit of SR, from what it tells.
+abbrev pub truth : Bool → ℕ
+truth true = 1
+truth false = 0
+
+-- The low 32 bits: "address sums are taken modulo 2^32", as are those of registers.
+abbrev pub word : ℕ → ℕ
+word x = x % 2 ^ 32
+
+-- A number read as signed: from half the width's numbers up it stands for a negative one.
+abbrev pub signed : ℕ → ℕ → ℤ
+signed half x = pick (ltb x half) (pos x) (subℕ x (half + half))
+
+abbrev pub signedByte : ℕ → ℤ
+signedByte x = signed (2 ^ 7) x
+
+abbrev pub signedWord : ℕ → ℤ
+signedWord x = signed (2 ^ 15) x
+
+abbrev pub signedLong : ℕ → ℤ
+signedLong x = signed (2 ^ 31) x
+
+-- The low 32 bits of a signed number.
+abbrev pub lowLong : ℤ → ℕ
+lowLong (pos n) = n % 2 ^ 32
+lowLong (negsuc n) = 2 ^ 32 - suc (n % 2 ^ 32)
+
+-- Not a signed number of 32 bits: below -2^31, or above 2^31 - 1.
+abbrev pub overflows : ℤ → Bool
+overflows z = ltZ z (negsuc (2 ^ 31 - 1)) || ltZ (pos (2 ^ 31 - 1)) z
