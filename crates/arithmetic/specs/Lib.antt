@@ -1,0 +1,5 @@
+pub mod Sums
+pub mod Compares
+pub mod Logic
+pub mod Transfers
+pub mod Addresses
