@@ -2,13 +2,15 @@
 -- Assumes nothing.
 use mathlib.Core.Path.{_≡_, refl, sym, _∙_, ap}
 use mathlib.Core.Bool.{Bool, true, false, cond}
-use Prim.Native.Nat.{ℕ, zero, suc, _+_, _-_, _<_, _≤_}
+use Prim.Native.Nat.{ℕ, zero, suc, _+_, _*_, _-_, _<_, _≤_, _^_}
 use native.Mathlib.Omega.{arith}
-use native.Mathlib.Nat.{add-zero}
 use borrow.Author.Tests.{ltb-true, ltb-false, lt-ltb, le-ltb}
 use lib.Dec.{ltb, leb·suc-zero}
-use lib.IntN.{ℤ, pos, negsuc, negℤ, subℕ, _+ℤ_, _-ℤ_, +ℤ-assoc, negℤ-+ℤ, pos-+ℤ-pos, +ℤ-idr}
+use lib.IntN.{ℤ, pos, negsuc, negℤ, subℕ, _+ℤ_, _-ℤ_, _*ℤ_, +ℤ-assoc, negℤ-+ℤ}
 use lib.Signed.{mag}
+use mir.Syntax.{w64}
+use mir.Val.{toZ, ofZ}
+use mir.Facts.{toZ-ofZ}
 use Rattle.numbers.specs.Numbers.{pick, signed}
 
 pub minus : (a b : ℕ) → pos a -ℤ pos b ≡ subℕ a b
@@ -36,10 +38,29 @@ mag-plus (pos a) (negsuc b) k l h g = mag-subℕ a (suc b) (k + l) (omega arith)
 mag-plus (negsuc a) (pos b) k l h g = mag-subℕ b (suc a) (k + l) (omega arith) (omega arith)
 mag-plus (negsuc a) (negsuc b) k l h g = omega arith
 
--- A signed number is below half its width.
-pub mag-signed : (half x : ℕ) → 0 < half → x < half + half → mag (signed half x) < half
-mag-signed half x p h = go (ltb x half) refl
+-- How large a signed reading can be.
+pub mag-signed : (half x : ℕ) → mag (signed half x) < suc (x + (half + half))
+mag-signed half x = go (ltb x half)
   where
-    go : (t : Bool) → ltb x half ≡ t → mag (pick t (pos x) (subℕ x (half + half))) < half
-    go true e = ltb-true x half e
-    go false e = rw (lt-ltb x (half + half) h) (let l : half ≤ x = ltb-false x half e in omega arith)
+    go : (t : Bool) → mag (pick t (pos x) (subℕ x (half + half))) < suc (x + (half + half))
+    go true = omega arith
+    go false = mag-subℕ x (half + half) (suc (x + (half + half))) (omega arith) (omega arith)
+
+pub mag-minus : (a b : ℤ) (k l : ℕ) → mag a < k → mag b < l → mag (a -ℤ b) < k + suc l
+mag-minus a b k l h g = mag-plus a (negℤ b) k (suc l) h (negated b g)
+  where
+    negated : (z : ℤ) → mag z < l → mag (negℤ z) < suc l
+    negated (pos zero) g = omega arith
+    negated (pos (suc n)) g = omega arith
+    negated (negsuc n) g = omega arith
+
+pub mag-double : (z : ℤ) (k : ℕ) → mag z < k → mag (z *ℤ pos 2) < k + k
+mag-double (pos n) k h = omega arith
+mag-double (negsuc n) k h = rw (mul-suc-two n) (omega arith)
+  where
+    mul-suc-two : (a : ℕ) → suc a * 2 ≡ suc (a + a + 1)
+    mul-suc-two a = omega arith
+
+-- A signed number that fits 64 bits is what they read back as.
+pub read-back : (z : ℤ) → mag z < 2 ^ 63 → toZ w64 (ofZ w64 z) ≡ z
+read-back z h = toZ-ofZ (record { sfits = h })
