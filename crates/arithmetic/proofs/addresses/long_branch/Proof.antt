@@ -13,7 +13,7 @@ signed-requires : tie.Need-signed-requires
 signed-requires c κs = search needs
 
 mul-twice : tie.Need-mul-twice
-mul-twice c = 
+mul-twice c =
     rw (read-back (c .signed .result) (c .signed .ok), c .signed .ensures)
     (record { sfits = double-fits 2048 (c .before .args .d) (omega arith) (omega arith) })
 
@@ -27,7 +27,7 @@ wrapping-add-u32-requires : tie.Need-wrapping-add-u32-requires
 wrapping-add-u32-requires c κs = search needs
 
 returns : tie.Need-returns
-returns c = 
+returns c =
     let s = c .before .before .before in
     let d = s .before .args .d in
     rw

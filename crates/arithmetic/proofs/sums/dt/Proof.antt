@@ -14,7 +14,7 @@ cast-t4 : tie.Need-cast-t4
 cast-t4 c = search needs
 
 returns : tie.Need-returns
-returns c = 
+returns c =
     let less : c .wrapping-sub-u32 .result ≡ (c .before .args .n + 4294967296 - 1) % 4294967296 = omega (arith, c .wrapping-sub-u32 .ensures, c .wrapping-sub-u32 .ok) in
     rw less
 

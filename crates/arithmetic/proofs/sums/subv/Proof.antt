@@ -18,7 +18,7 @@ signed-requires-2 : tie.Need-signed-requires-2
 signed-requires-2 c κs = search needs
 
 sub-difference : tie.Need-sub-difference
-sub-difference c = 
+sub-difference c =
     rw (read-back (c .before .signed .result) (c .before .signed .ok), read-back (c .signed2 .result) (c .signed2 .ok), c .before .signed .ensures, c .signed2 .ensures)
     (record { sfits = difference-fits (c .before .before .args .n) (c .before .before .args .m) (c .before .before .fits .n .fits) (c .before .before .fits .m .fits) })
 
@@ -32,7 +32,7 @@ cast-t8 : tie.Need-cast-t8
 cast-t8 c = search needs
 
 returns : tie.Need-returns
-returns c = 
+returns c =
     let s = c .before .before in
     let a = s .before .before .args in
     let f = s .before .before .fits in
