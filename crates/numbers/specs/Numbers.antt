@@ -31,10 +31,16 @@ signedWord x = signed (2 ^ 15) x
 abbrev pub signedLong : ℕ → ℤ
 signedLong x = signed (2 ^ 31) x
 
--- The low 32 bits of a signed number.
+-- The low k bits of a signed number.
+abbrev pub lowBits : ℕ → ℤ → ℕ
+lowBits k (pos n) = n % 2 ^ k
+lowBits k (negsuc n) = 2 ^ k - suc (n % 2 ^ k)
+
 abbrev pub lowLong : ℤ → ℕ
-lowLong (pos n) = n % 2 ^ 32
-lowLong (negsuc n) = 2 ^ 32 - suc (n % 2 ^ 32)
+lowLong z = lowBits 32 z
+
+abbrev pub lowQuad : ℤ → ℕ
+lowQuad z = lowBits 64 z
 
 -- Not a signed number of 32 bits: below -2^31, or above 2^31 - 1.
 abbrev pub overflows : ℤ → Bool

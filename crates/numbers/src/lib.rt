@@ -1,6 +1,6 @@
 // Registers read as signed numbers, and signed numbers put back into registers (document 000, section 3.1).
 ghost use mathlib.Core.Path.{_≡_};
-ghost use Rattle.numbers.specs.Numbers.{signed as signedOf, lowLong, overflows as overflowsOf};
+ghost use Rattle.numbers.specs.Numbers.{signed as signedOf, lowLong, lowQuad, overflows as overflowsOf};
 
 // A register's new value, and the T bit.
 pub struct WithT {
@@ -26,6 +26,16 @@ pub fn low_long(z: i64) -> u32
     }
     let below = -1 - z;
     4294967295 - (below % 4294967296) as u32
+}
+
+pub fn low_quad(z: i64) -> u64
+    ensures { λ r. ⌜ r ≡ lowQuad z ⌝ }
+{
+    if z >= 0 {
+        return z as u64;
+    }
+    let below = -1 - z;
+    18446744073709551615 - below as u64
 }
 
 // Not a signed number of 32 bits.
