@@ -3,10 +3,11 @@
 use mathlib.Core.Path.{_≡_, refl, sym, _∙_, ap}
 use mathlib.Core.Bool.{Bool, true, false, cond}
 use Prim.Native.Nat.{ℕ, zero, suc, _+_, _*_, _-_, _<_, _≤_, _^_}
+use native.Mathlib.Nat.{le-trans, mul-le-mul}
 use native.Mathlib.Omega.{arith}
 use borrow.Author.Tests.{ltb-true, ltb-false, lt-ltb, le-ltb}
 use lib.Dec.{ltb, leb·suc-zero}
-use lib.IntN.{ℤ, pos, negsuc, negℤ, subℕ, _+ℤ_, _-ℤ_, _*ℤ_, +ℤ-assoc, negℤ-+ℤ}
+use lib.IntN.{ℤ, pos, negsuc, natAbs, negℤ, subℕ, _+ℤ_, _-ℤ_, _*ℤ_, +ℤ-assoc, negℤ-+ℤ}
 use lib.Signed.{mag}
 use mir.Syntax.{w64}
 use mir.Val.{toZ, ofZ}
@@ -64,3 +65,21 @@ mag-double (negsuc n) k h = rw (mul-suc-two n) (omega arith)
 -- A signed number that fits 64 bits is what they read back as.
 pub read-back : (z : ℤ) → mag z < 2 ^ 63 → toZ w64 (ofZ w64 z) ≡ z
 read-back z h = toZ-ofZ (record { sfits = h })
+
+-- A product is not larger than the product of bounds.
+abs-negated : (x : ℕ) → mag (negℤ (pos x)) ≤ x
+abs-negated zero = omega arith
+abs-negated (suc n) = omega arith
+
+pub mag-times : (a b : ℤ) (k l : ℕ) → natAbs a ≤ k → natAbs b ≤ l → mag (a *ℤ b) ≤ k * l
+mag-times (pos a) (pos b) k l h g = mul-le-mul h g
+mag-times (pos a) (negsuc b) k l h g = le-trans (abs-negated (a * suc b)) (mul-le-mul h g)
+mag-times (negsuc a) (pos b) k l h g = le-trans (abs-negated (suc a * b)) (mul-le-mul h g)
+mag-times (negsuc a) (negsuc b) k l h g = mul-le-mul h g
+
+pub abs-signed : (half x : ℕ) → x < half + half → natAbs (signed half x) ≤ half
+abs-signed half x h = go (ltb x half) refl
+  where
+    go : (t : Bool) → ltb x half ≡ t → natAbs (pick t (pos x) (subℕ x (half + half))) ≤ half
+    go true e = let l : x < half = ltb-true x half e in omega arith
+    go false e = let l : half ≤ x = ltb-false x half e in rw (lt-ltb x (half + half) h) (omega arith)

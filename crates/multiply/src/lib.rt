@@ -1,0 +1,143 @@
+// Multiplications, and multiplications that add to MACH and MACL: document 000, sections 6.20, 6.21, 6.29, 6.31 and 6.38 to 6.40.
+use std::num::wrapping_add_u64;
+ghost use mathlib.Core.Path.{_≡_};
+ghost use Prim.Native.Nat.{_+_, _<_, _%_, _^_};
+ghost use lib.IntN.{_*ℤ_};
+ghost use lib.Signed.{mag};
+ghost use Rattle.numbers.specs.Numbers.{signed, signedLong, signedWord};
+ghost use Rattle.multiply.specs.Multiply as Multiply;
+
+const REACH: u64 = 4294967296;
+
+const HALF_LONG: u32 = 2147483648;
+
+const HALF_WORD: u32 = 32768;
+
+pub struct Mac {
+    pub mach: u32,
+    pub macl: u32,
+}
+
+pub fn dmuls_l(m: u32, n: u32) -> Mac
+    ensures { λ r. ⌜ r ≡ Multiply.dmulsL m n ⌝ }
+{
+    split(numbers::low_quad(product_of_longs(m, n)))
+}
+
+pub fn dmulu_l(m: u32, n: u32) -> Mac
+    ensures { λ r. ⌜ r ≡ Multiply.dmuluL m n ⌝ }
+{
+    split(n as u64 * m as u64)
+}
+
+pub fn mul_l(m: u32, n: u32) -> u32
+    ensures { λ r. ⌜ r ≡ Multiply.mulL m n ⌝ }
+{
+    (n as u64 * m as u64 % REACH) as u32
+}
+
+pub fn muls_w(m: u32, n: u32) -> u32
+    ensures { λ r. ⌜ r ≡ Multiply.mulsW m n ⌝ }
+{
+    numbers::low_long(product_of_words(m, n))
+}
+
+pub fn mulu_w(m: u32, n: u32) -> u32
+    ensures { λ r. ⌜ r ≡ Multiply.muluW m n ⌝ }
+{
+    n % 65536 * (m % 65536)
+}
+
+pub fn mac_l(a: Mac, s: u32, m: u32, n: u32) -> Mac
+    ensures { λ r. ⌜ r ≡ Multiply.macL a s m n ⌝ }
+{
+    let product = product_of_longs(m, n);
+    if s == 1 {
+        return mac_l_held(a, product);
+    }
+    summed(a, product)
+}
+
+pub fn mac_w(a: Mac, s: u32, m: u32, n: u32) -> Mac
+    ensures { λ r. ⌜ r ≡ Multiply.macW a s m n ⌝ }
+{
+    let product = product_of_words(m, n);
+    if s == 1 {
+        return mac_w_held(a, product);
+    }
+    summed(a, product)
+}
+
+fn mac_l_held(a: Mac, product: i64) -> Mac
+    requires { ⌜ mag product < 2 ^ 62 + 1 ⌝ }
+    ensures { λ r. ⌜ r ≡ Multiply.macLHeld a product ⌝ }
+{
+    let sum = signed_48(joined(a)) + product;
+    split(numbers::low_quad(held(-140737488355328, 140737488355327, sum)))
+}
+
+fn mac_w_held(a: Mac, product: i64) -> Mac
+    requires { ⌜ mag product < 2 ^ 62 + 1 ⌝ }
+    ensures { λ r. ⌜ r ≡ Multiply.macWHeld a product ⌝ }
+{
+    let sum = numbers::signed(a.macl, HALF_LONG) + product;
+    Mac {
+        mach: a.mach,
+        macl: numbers::low_long(held(-2147483648, 2147483647, sum)),
+    }
+}
+
+fn summed(a: Mac, product: i64) -> Mac
+    ensures { λ r. ⌜ r ≡ Multiply.summed a product ⌝ }
+{
+    split(wrapping_add_u64(joined(a), numbers::low_quad(product)))
+}
+
+fn product_of_longs(m: u32, n: u32) -> i64
+    ensures { λ r. ⌜ r ≡ signedLong n *ℤ signedLong m ⌝ }
+{
+    numbers::signed(n, HALF_LONG) * numbers::signed(m, HALF_LONG)
+}
+
+fn product_of_words(m: u32, n: u32) -> i64
+    ensures { λ r. ⌜ r ≡ signedWord (n % 2 ^ 16) *ℤ signedWord (m % 2 ^ 16) ⌝ }
+{
+    numbers::signed(n % 65536, HALF_WORD) * numbers::signed(m % 65536, HALF_WORD)
+}
+
+fn signed_48(x: u64) -> i64
+    ensures { λ r. ⌜ r ≡ signed (2 ^ 47) (x % 2 ^ 48) ⌝ }
+{
+    let low = x % 281474976710656;
+    if low < 140737488355328 {
+        return low as i64;
+    }
+    low as i64 - 281474976710656
+}
+
+fn held(least: i64, most: i64, z: i64) -> i64
+    ensures { λ r. ⌜ r ≡ Multiply.held least most z ⌝ }
+{
+    if z < least {
+        return least;
+    }
+    if z > most {
+        return most;
+    }
+    z
+}
+
+fn split(x: u64) -> Mac
+    ensures { λ r. ⌜ r ≡ Multiply.split x ⌝ }
+{
+    Mac {
+        mach: (x / REACH) as u32,
+        macl: (x % REACH) as u32,
+    }
+}
+
+fn joined(a: Mac) -> u64
+    ensures { λ r. ⌜ r ≡ Multiply.joined a ⌝ }
+{
+    a.mach as u64 * REACH + a.macl as u64
+}
