@@ -1,0 +1,27 @@
+-- Two facts of a divide step: how a wrapped sum tells its carry, and flips as a sum modulo 2.
+-- Assumes nothing.
+use mathlib.Core.Path.{_≡_, refl}
+use mathlib.Core.Bool.{Bool, true, false}
+use Prim.Native.Nat.{ℕ, _+_, _%_, _≤_, _<_, _^_}
+use native.Mathlib.Omega.{arith}
+use borrow.Author.Tests.{leb-true, leb-false, lt-ltb, le-ltb}
+use lib.Dec.{leb, ltb}
+use mir.Val.{boolByte}
+use Rattle.divide.specs.Divide.{flipped}
+
+pub carry : (d m r : ℕ) → d < 2 ^ 32 → r ≡ (d + m) % 2 ^ 32 → m < 2 ^ 32 → ltb r m ≡ leb (2 ^ 32) (d + m)
+carry d m r h e g = go (leb (2 ^ 32) (d + m)) refl
+  where
+    go : (b : Bool) → leb (2 ^ 32) (d + m) ≡ b → ltb r m ≡ b
+    go true t = let l : 2 ^ 32 ≤ d + m = leb-true (2 ^ 32) (d + m) t in lt-ltb r m (omega arith)
+    go false t = let l : d + m < 2 ^ 32 = leb-false (2 ^ 32) (d + m) t in le-ltb r m (omega arith)
+
+pub bit : (b : Bool) → boolByte b < 2
+bit true = omega arith
+bit false = omega arith
+
+pub flips : (top : ℕ) (a b : Bool) → top < 2 → (top + boolByte a + boolByte b) % 2 ≡ flipped b (flipped a top)
+flips top true true h = omega arith
+flips top true false h = omega arith
+flips top false true h = omega arith
+flips top false false h = omega arith

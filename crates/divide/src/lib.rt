@@ -1,0 +1,74 @@
+// The divide steps: document 000, sections 6.17 to 6.19, with document 01, "Instructions with corners", for DIV1.
+use std::num::wrapping_add_u32;
+use std::num::wrapping_sub_u32;
+ghost use mathlib.Core.Path.{_≡_};
+ghost use Rattle.divide.specs.Divide as Divide;
+
+const REACH: u64 = 4294967296;
+
+const HALF: u32 = 2147483648;
+
+// M, Q and T.
+pub struct Bits {
+    pub m: u32,
+    pub q: u32,
+    pub t: u32,
+}
+
+// Rn's new value, Q and T.
+pub struct Divided {
+    pub value: u32,
+    pub q: u32,
+    pub t: u32,
+}
+
+pub fn div0s(m: u32, n: u32) -> Bits
+    ensures { λ r. ⌜ r ≡ Divide.div0s m n ⌝ }
+{
+    Bits {
+        m: m / HALF,
+        q: n / HALF,
+        t: (m / HALF != n / HALF) as u32,
+    }
+}
+
+pub fn div0u() -> Bits
+    ensures { λ r. ⌜ r ≡ Divide.div0u ⌝ }
+{
+    Bits { m: 0, q: 0, t: 0 }
+}
+
+pub fn div1(m: u32, n: u32, m_bit: u32, q: u32, t: u32) -> Divided
+    ensures { λ r. ⌜ r ≡ Divide.div1 m n «m_bit» q t ⌝ }
+{
+    let doubled = ((n as u64 * 2 + t as u64) % REACH) as u32;
+    let partial = partial_remainder(q == m_bit, doubled, m);
+    let new_q = (n / HALF + (m_bit == 1) as u32 + partial.changed as u32) % 2;
+    Divided {
+        value: partial.value,
+        q: new_q,
+        t: (new_q == m_bit) as u32,
+    }
+}
+
+// A partial remainder, and whether forming it borrowed or carried.
+struct Partial {
+    value: u32,
+    changed: bool,
+}
+
+fn partial_remainder(subtract: bool, doubled: u32, m: u32) -> Partial
+    ensures { λ r. ⌜ (r .value ≡ Divide.partialRemainder subtract doubled m) × (r .changed ≡ Divide.borrowOrCarry subtract doubled m) ⌝ }
+{
+    if subtract {
+        return Partial {
+            value: wrapping_sub_u32(doubled, m),
+            changed: doubled < m,
+        };
+    }
+    let sum = wrapping_add_u32(doubled, m);
+    Partial {
+        value: sum,
+        changed: sum < m,
+    }
+}
