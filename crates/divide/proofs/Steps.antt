@@ -1,10 +1,11 @@
--- Two facts of a divide step: how a wrapped sum tells its carry, and flips as a sum modulo 2.
+-- Two facts of a divide step: how a wrapped sum tells its carry, and flips as exclusive ors.
 -- Assumes nothing.
 use mathlib.Core.Path.{_≡_, refl}
 use mathlib.Core.Bool.{Bool, true, false}
-use Prim.Native.Nat.{ℕ, _+_, _%_, _≤_, _<_, _^_}
+use Prim.Native.Nat.{ℕ, zero, suc, _+_, _%_, _≤_, _<_, _^_}
 use native.Mathlib.Omega.{arith}
 use borrow.Author.Tests.{leb-true, leb-false, lt-ltb, le-ltb}
+use lib.Bits.{bitXor}
 use lib.Dec.{leb, ltb}
 use mir.Val.{boolByte}
 use Rattle.divide.specs.Divide.{flipped}
@@ -16,12 +17,13 @@ carry d m r h e g = go (leb (2 ^ 32) (d + m)) refl
     go true t = let l : 2 ^ 32 ≤ d + m = leb-true (2 ^ 32) (d + m) t in lt-ltb r m (omega arith)
     go false t = let l : d + m < 2 ^ 32 = leb-false (2 ^ 32) (d + m) t in le-ltb r m (omega arith)
 
-pub bit : (b : Bool) → boolByte b < 2
-bit true = omega arith
-bit false = omega arith
-
-pub flips : (top : ℕ) (a b : Bool) → top < 2 → (top + boolByte a + boolByte b) % 2 ≡ flipped b (flipped a top)
-flips top true true h = omega arith
-flips top true false h = omega arith
-flips top false true h = omega arith
-flips top false false h = omega arith
+pub flips : (top : ℕ) (a b : Bool) → top < 2 → bitXor (bitXor top (boolByte a)) (boolByte b) ≡ flipped b (flipped a top)
+flips zero true true h = refl
+flips zero true false h = refl
+flips zero false true h = refl
+flips zero false false h = refl
+flips (suc zero) true true h = refl
+flips (suc zero) true false h = refl
+flips (suc zero) false true h = refl
+flips (suc zero) false false h = refl
+flips (suc (suc n)) a b h = absurd (omega arith)

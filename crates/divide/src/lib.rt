@@ -43,7 +43,7 @@ pub fn div1(m: u32, n: u32, m_bit: u32, q: u32, t: u32) -> Divided
 {
     let doubled = ((n as u64 * 2 + t as u64) % REACH) as u32;
     let partial = partial_remainder(q == m_bit, doubled, m);
-    let new_q = (n / HALF + (m_bit == 1) as u32 + partial.changed as u32) % 2;
+    let new_q = n / HALF ^ (m_bit == 1) as u32 ^ partial.changed as u32;
     Divided {
         value: partial.value,
         q: new_q,

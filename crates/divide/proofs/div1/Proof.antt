@@ -1,9 +1,9 @@
--- `div1` forms the partial remainder as document 01 says it, and its sum of bits modulo 2 is the flips.
+-- `div1` forms the partial remainder as document 01 says it, and its exclusive ors are the flips.
 -- Assumes nothing.
 use Prim.Native.Nat.{_/_}
 use native.Mathlib.Omega.{arith}
 use lib.Dec.{eqb}
-use Rattle.divide.proofs.Steps.{bit, flips}
+use Rattle.divide.proofs.Steps.{flips}
 use borrow.Author.Needs.{needs}
 use Rattle.divide.proofs.div1.Statement.{statement}
 use Rattle.divide.proofs.div1.Tie as tie
@@ -23,14 +23,8 @@ partial-remainder-requires c κs = search needs
 cast-new-q : tie.Need-cast-new-q
 cast-new-q c = search needs
 
-add-new-q : tie.Need-add-new-q
-add-new-q c = record { fits = omega (arith, bit (eqb (c .before .args .m-bit) 1)) }
-
 cast-new-q-2 : tie.Need-cast-new-q-2
 cast-new-q-2 c = search needs
-
-add-new-q-2 : tie.Need-add-new-q-2
-add-new-q-2 c = record { fits = omega (arith, bit (eqb (c .before .before .args .m-bit) 1), bit (c .before .partial-remainder .result .changed)) }
 
 cast-t15 : tie.Need-cast-t15
 cast-t15 c = search needs
@@ -50,8 +44,6 @@ div1-spec =
     cast-doubled
     partial-remainder-requires
     cast-new-q
-    add-new-q
     cast-new-q-2
-    add-new-q-2
     cast-t15
     returns)
