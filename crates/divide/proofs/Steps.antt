@@ -2,7 +2,7 @@
 -- Assumes nothing.
 use mathlib.Core.Path.{_≡_, refl}
 use mathlib.Core.Bool.{Bool, true, false}
-use Prim.Native.Nat.{ℕ, zero, suc, _+_, _%_, _≤_, _<_, _^_}
+use Prim.Native.Nat.{ℕ, zero, suc, _+_, _/_, _%_, _≤_, _<_, _^_}
 use native.Mathlib.Omega.{arith}
 use borrow.Author.Tests.{leb-true, leb-false, lt-ltb, le-ltb}
 use lib.Bits.{bitXor}
@@ -17,13 +17,17 @@ carry d m r h e g = go (leb (2 ^ 32) (d + m)) refl
     go true t = let l : 2 ^ 32 ≤ d + m = leb-true (2 ^ 32) (d + m) t in lt-ltb r m (omega arith)
     go false t = let l : d + m < 2 ^ 32 = leb-false (2 ^ 32) (d + m) t in le-ltb r m (omega arith)
 
-pub flips : (top : ℕ) (a b : Bool) → top < 2 → bitXor (bitXor top (boolByte a)) (boolByte b) ≡ flipped b (flipped a top)
-flips zero true true h = refl
-flips zero true false h = refl
-flips zero false true h = refl
-flips zero false false h = refl
-flips (suc zero) true true h = refl
-flips (suc zero) true false h = refl
-flips (suc zero) false true h = refl
-flips (suc zero) false false h = refl
-flips (suc (suc n)) a b h = absurd (omega arith)
+exclusive : (top : ℕ) (a b : Bool) → top < 2 → bitXor (bitXor top (boolByte a)) (boolByte b) ≡ flipped b (flipped a top)
+exclusive zero true true h = refl
+exclusive zero true false h = refl
+exclusive zero false true h = refl
+exclusive zero false false h = refl
+exclusive (suc zero) true true h = refl
+exclusive (suc zero) true false h = refl
+exclusive (suc zero) false true h = refl
+exclusive (suc zero) false false h = refl
+exclusive (suc (suc n)) a b h = absurd (omega arith)
+
+pub flips :
+    (n : ℕ) → n < 2 ^ 32 → (a b : Bool) → bitXor (bitXor (n / 2 ^ 31) (boolByte a)) (boolByte b) ≡ flipped b (flipped a (n / 2 ^ 31))
+flips n h a b = exclusive (n / 2 ^ 31) a b (omega arith)

@@ -1,8 +1,5 @@
 -- `div1` forms the partial remainder as document 01 says it, and its exclusive ors are the flips.
 -- Assumes nothing.
-use Prim.Native.Nat.{_/_}
-use native.Mathlib.Omega.{arith}
-use lib.Dec.{eqb}
 use Rattle.divide.proofs.Steps.{flips}
 use borrow.Author.Needs.{needs}
 use Rattle.divide.proofs.div1.Statement.{statement}
@@ -32,8 +29,7 @@ cast-t15 c = search needs
 returns : tie.Need-returns
 returns c =
     let p = c .before .partial-remainder in
-    let a = c .before .before .args in
-    rw (flips (a .n / 2147483648) (eqb (a .m-bit) 1) (p .result .changed) (omega arith), p .ensures .0, p .ensures .1)
+    rw (flips (c .before .before .args .n) (c .before .before .fits .n .fits), p .ensures .0, p .ensures .1)
 
 pub div1-spec : {M : Type 1} → statement M
 div1-spec =

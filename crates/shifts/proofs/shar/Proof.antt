@@ -3,8 +3,7 @@
 use native.Mathlib.Omega.{arith}
 use borrow.Author.Needs.{needs}
 use lib.Signed.{shrZ, mag-shr}
-use Rattle.numbers.specs.Numbers.{signedLong}
-use Rattle.numbers.proofs.Integers.{mag-signed, read-back}
+use Rattle.numbers.proofs.Integers.{read-back}
 use Rattle.shifts.proofs.shar.Statement.{statement}
 use Rattle.shifts.proofs.shar.Tie as tie
 
@@ -17,9 +16,8 @@ low-long-requires c κs = search needs
 returns : tie.Need-returns
 returns c =
     let s = c .before .signed in
-    let n = c .before .before .args .n in
     rw
-    (c .low-long .ensures, read-back (s .result) (s .ok), s .ensures, read-back (shrZ (signedLong n) 2) (omega (arith, mag-shr (signedLong n) 2, mag-signed 2147483648 n, c .before .before .fits .n .fits)))
+    (c .low-long .ensures, read-back (s .result) (s .ok), read-back (shrZ (s .result) 2) (omega (arith, mag-shr (s .result) 2, s .ok)), s .ensures)
 
 pub shar-spec : {M : Type 1} → statement M
 shar-spec = tie.close (tie.spec signed-requires low-long-requires returns)
