@@ -1,4 +1,4 @@
--- Extensions and exchanges within registers: document 000, sections 6.23, 6.24, 6.65 and 6.70.
+-- Extensions and exchanges within registers: document 000, sections 6.23, 6.24, 6.37, 6.65 and 6.70.
 use Prim.Native.Nat.{ℕ, _+_, _*_, _/_, _%_, _^_}
 use Rattle.numbers.specs.Numbers.{signedByte, signedWord, lowLong}
 
@@ -17,6 +17,10 @@ extuB m = m % 2 ^ 8
 -- 6.24 EXTU.W
 abbrev pub extuW : ℕ → ℕ
 extuW m = m % 2 ^ 16
+
+-- 6.37 MOVT
+abbrev pub movt : ℕ → ℕ
+movt t = t
 
 -- 6.65 SWAP.B: the two low bytes exchanged
 abbrev pub swapB : ℕ → ℕ

@@ -1,4 +1,4 @@
-// Extensions and exchanges within registers: document 000, sections 6.23, 6.24, 6.65 and 6.70.
+// Extensions and exchanges within registers: document 000, sections 6.23, 6.24, 6.37, 6.65 and 6.70.
 ghost use mathlib.Core.Path.{_≡_};
 ghost use Rattle.arithmetic.specs.Transfers as Transfers;
 
@@ -24,6 +24,12 @@ pub fn extu_w(m: u32) -> u32
     ensures { λ r. ⌜ r ≡ Transfers.extuW m ⌝ }
 {
     m % 65536
+}
+
+pub fn movt(t: u32) -> u32
+    ensures { λ r. ⌜ r ≡ Transfers.movt t ⌝ }
+{
+    t
 }
 
 pub fn swap_b(m: u32) -> u32
