@@ -14,9 +14,8 @@ use Rattle.decoder.specs.Pattern.{Group, fixed, part, Code, Nibbles, nib
 use Rattle.decoder.specs.Code.{among, meaning, howMany, rowMatches, rowMeans}
 use Rattle.decoder.specs.Table.{Row, table}
 use Rattle.decoder.specs.Widths.{within}
-use Rattle.decoder.specs.Slot.{rewritesPc}
-use Rattle.decoder.specs.declared.meaning.Meaning.{Meaning}
-use Rattle.decoder.specs.declared.meaning.Meaning.the-variants.{Undefined, NoOperand, OneRegister, CompareZero, TwoRegisters, Compare, Divide, Multiply, MultiplyAdd, Immediate, ImmediateR0, ImmediateByte, Load, LoadIncrement, Store, StoreDecrement, Relative, LoadControl, LoadControlLong, StoreControl, StoreControlLong, TasB, BranchIf, Branch, BranchTo, Return, Trapa}
+use Rattle.decoder.specs.Slot.{rewritesPc, undefined}
+use Rattle.decoder.specs.declared.meaning.Meaning.the-variants.{Undefined}
 use Rattle.decoder.proofs.Conjunction.{all-pass, one-fails}
 use Rattle.decoder.proofs.Rows.{every, allApart, at-most-one, whichever, means-all, undefined-none, none-undefined}
 
@@ -49,36 +48,6 @@ unmatched w c d t m =
     (λ x. disagrees (c .last) (d .last) (w .last) x (both .1))
     (λ x. disagrees (c .third) (d .third) (w .third) x (both .2))
     (λ x. disagrees (c .second) (d .second) (w .second) x (both .3)) t
-
--- No row means Undefined.
-abbrev defined : Meaning → Bool
-defined Undefined = false
-defined (NoOperand op) = true
-defined (OneRegister op n) = true
-defined (CompareZero op n) = true
-defined (TwoRegisters op m n) = true
-defined (Compare op m n) = true
-defined (Divide op m n) = true
-defined (Multiply op m n) = true
-defined (MultiplyAdd op m n) = true
-defined (Immediate op i n) = true
-defined (ImmediateR0 op i) = true
-defined (ImmediateByte op i) = true
-defined (Load size address n) = true
-defined (LoadIncrement size m n) = true
-defined (Store size m address) = true
-defined (StoreDecrement size m n) = true
-defined (Relative op d n) = true
-defined (LoadControl register m) = true
-defined (LoadControlLong register m) = true
-defined (StoreControl register n) = true
-defined (StoreControlLong register n) = true
-defined (TasB n) = true
-defined (BranchIf op d) = true
-defined (Branch op d) = true
-defined (BranchTo op m) = true
-defined (Return op) = true
-defined (Trapa i) = true
 
 abbrev named : Bool → String → List String → List String
 named true s names = s ∷ names
@@ -115,7 +84,7 @@ module _ (w : ℕ) where
   -- A word is undefined exactly when no row matches it.
   pub undefined-when-unmatched : meaning w ≡ Undefined ↔ howMany table (nibbles w) ≡ 0
   unfolding meaning table
-  undefined-when-unmatched = (undefined-none (nibbles w) defined (λ t. t) table tt, none-undefined (nibbles w) table)
+  undefined-when-unmatched = (undefined-none (nibbles w) (λ x. not (undefined x)) (λ t. t) table tt, none-undefined (nibbles w) table)
 
   -- Every register number in a meaning is below 16, and each other field within its width.
   rows-within : every (λ r. within (rowMeans (nibbles w) r)) table ≡ true

@@ -1,0 +1,3 @@
+pub mod State
+pub mod Shapes
+pub mod Execute

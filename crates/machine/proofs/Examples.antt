@@ -1,0 +1,90 @@
+-- Closed runs of the definition, computed: document 01's image of the section "The runner", and the four divisions that it gives as
+-- "Run and compared".
+-- Assumes nothing.
+use mathlib.Core.Path.{_≡_, refl}
+use mathlib.Core.List.{List, [], _∷_, _++_, map}
+use Prim.Native.Nat.{ℕ, zero, suc, _/_, _%_}
+use lib.ListN.{replicate, getD}
+use Rattle.memory.specs.Access.{accessible, loaded, valueAt, storedAt, written, put}
+use Rattle.decoder.specs.Code.{meaning, among}
+use Rattle.decoder.specs.Table.{table}
+use Rattle.instructions.specs.Execute.{execute}
+use Rattle.machine.specs.declared.Mode.the-variants.{Running, Asleep}
+use Rattle.machine.specs.declared.Refusal.the-variants.{Accepted}
+use Rattle.machine.specs.Exceptions.{enter, at, Situation}
+use Rattle.machine.specs.Step.{step}
+use Rattle.machine.specs.Run.{run, Ran}
+use Rattle.machine.specs.Calls.{resetCall, runCall, started, over, startingAt}
+
+bytesOf : List ℕ → List ℕ
+bytesOf [] = []
+bytesOf (w ∷ ws) = w / 256 ∷ w % 256 ∷ bytesOf ws
+
+-- 1,024 bytes: PC H'200 and R15 H'400 in the first two longs, and a program of at most 256 words at H'200.
+image : List ℕ → List ℕ
+image code = 0 ∷ 0 ∷ 2 ∷ 0 ∷ 0 ∷ 0 ∷ 4 ∷ 0 ∷ (replicate 504 0 ++ code)
+
+-- MOV #5,R0 and SLEEP.
+small : List ℕ
+small = image (0xe0 ∷ 5 ∷ 0 ∷ 0x1b ∷ replicate 508 0)
+
+runs-to-sleep :
+    runCall 1000000 (started small) small ≡
+    record {
+      answer =
+        record {
+          refusal = Accepted;
+          machine =
+            record {
+              r = 5 ∷ (replicate 14 0 ++ (0x400 ∷ []));
+              control = record { pc = 0x204; sr = 0xf0; gbr = 0; vbr = 0; pr = 0; mach = 0; macl = 0 };
+              mode = Asleep
+            };
+          steps = 2
+        };
+      memory = small
+    }
+unfolding small image run step meaning among table execute accessible loaded valueAt
+runs-to-sleep = refl
+
+-- DIV0U, 32 times ROTCL R1 and DIV1 R3,R2, and ROTCL R1.
+pairs : ℕ → List ℕ
+pairs zero = 0x41 ∷ 0x24 ∷ replicate 380 0
+pairs (suc n) = 0x41 ∷ 0x24 ∷ 0x32 ∷ 0x34 ∷ pairs n
+
+divider : List ℕ
+divider = image (0 ∷ 0x19 ∷ pairs 32)
+
+-- high:low / divisor
+pub record Division : Type 0 where
+  pub high : ℕ
+  pub low : ℕ
+  pub divisor : ℕ
+
+dividing : Division → Ran
+dividing d =
+    run 66
+    (over
+    (record { r = 0 ∷ d .low ∷ d .high ∷ d .divisor ∷ replicate 12 0; control = startingAt 0x200; mode = Running })
+    divider)
+
+-- low, high and Q afterwards; the PC and the steps taken
+outcome : Ran → List ℕ
+outcome x =
+    let s = x .after .state in
+    getD (s .registers) 1 0 ∷ getD (s .registers) 2 0 ∷ s .control .sr / 256 % 2 ∷ s .control .pc ∷ x .steps ∷ []
+
+divide : ℕ → ℕ → ℕ → List ℕ
+divide high low divisor = outcome (dividing (record { high = high; low = low; divisor = divisor }))
+
+-- "0:100 / 7 gives 14, H'FFFFFFFB, 1. 1:0 / 3 gives H'55555555, 1, 0. 6:H'FFFFFFFF / 7 gives H'FFFFFFFF, 6, 0. 0:100 / 0 gives
+-- H'FFFFFFFF, 100, 0."
+divisions :
+    divide 0 100 7 ∷ divide 1 0 3 ∷ divide 6 0xffff_ffff 7 ∷ divide 0 100 0 ∷ [] ≡
+    (14 ∷ 0xffff_fffb ∷ 1 ∷ 0x284 ∷ 66 ∷ []) ∷
+    (0x5555_5555 ∷ 1 ∷ 0 ∷ 0x284 ∷ 66 ∷ []) ∷
+    (0xffff_ffff ∷ 6 ∷ 0 ∷ 0x284 ∷ 66 ∷ []) ∷
+    (0xffff_ffff ∷ 100 ∷ 0 ∷ 0x284 ∷ 66 ∷ []) ∷
+    []
+unfolding divide outcome dividing divider pairs image run step meaning among table execute accessible loaded valueAt
+divisions = refl

@@ -1,0 +1,104 @@
+-- What a call promises: document 01, "Refusals of a call", "Reset" and "Run".
+use mathlib.Core.Path.{_≡_}
+use mathlib.Core.Bool.{_||_, cond}
+use mathlib.Core.List.{List}
+use Prim.Native.Nat.{ℕ, _%_}
+use lib.Dec.{eqb, ltb}
+use lib.ListN.{length, replicate, set}
+use Rattle.memory.specs.Access.{valueAt}
+use Rattle.instructions.specs.State.{State, masked}
+use Rattle.instructions.specs.declared.Control.{Control}
+use Rattle.machine.specs.declared.Answer.{Answer}
+use Rattle.machine.specs.declared.Machine.{Machine}
+use Rattle.machine.specs.declared.Mode.{Mode}
+use Rattle.machine.specs.declared.Mode.the-variants.{Running, Stopped}
+use Rattle.machine.specs.declared.Refusal.{Refusal}
+use Rattle.machine.specs.declared.Refusal.the-variants.{Accepted, Ragged, Size, Status}
+use Rattle.machine.specs.declared.Stop.the-variants.{Vector}
+use Rattle.machine.specs.Exceptions.{Situation, at}
+use Rattle.machine.specs.Run.{Ran, run}
+
+-- Document 01's number of a refusal; 0 for none.
+abbrev pub refusalNumber : Refusal → ℕ
+refusalNumber Accepted = 0
+refusalNumber Ragged = 1
+refusalNumber Size = 2
+refusalNumber Status = 3
+
+-- 1: "memory length is not a multiple of 4"; 2: "else, length below 1,024 or above 16,777,216"
+abbrev pub refusedMemory : List ℕ → Refusal
+refusedMemory memory =
+    cond (eqb (length memory % 4) 0)
+    (cond (ltb (length memory) 1024 || ltb 16777216 (length memory)) Size Accepted)
+    Ragged
+
+-- 3: "else, SR given has a bit outside H'3F3 (step and run only)"
+abbrev pub refusedState : Refusal → ℕ → Refusal
+refusedState Accepted sr = cond (eqb (masked sr) sr) Accepted Status
+refusedState Ragged sr = Ragged
+refusedState Size sr = Size
+refusedState Status sr = Status
+
+abbrev pub refused : Machine → List ℕ → Refusal
+refused m memory = refusedState (refusedMemory memory) (m .control .sr)
+
+-- The machine over its memory, and back.
+abbrev pub over : Machine → List ℕ → Situation
+over m memory = at (m .mode) (record { registers = m .r; control = m .control; memory = memory })
+
+abbrev pub machineOf : Situation → Machine
+machineOf x = record { r = x .state .registers; control = x .state .control; mode = x .mode }
+
+-- An answer, with the memory that it leaves.
+pub record Called : Type 0 where
+  pub answer : Answer
+  pub memory : List ℕ
+
+-- "state as given, memory untouched, 0 steps"
+abbrev pub turnedAway : Refusal → Machine → List ℕ → Called
+turnedAway why m memory = record { answer = record { refusal = why; machine = m; steps = 0 }; memory = memory }
+
+abbrev pub ran : Ran → Called
+ran x =
+    record {
+      answer = record { refusal = Accepted; machine = machineOf (x .after); steps = x .steps };
+      memory = x .after .state .memory
+    }
+
+abbrev pub runCalled : Refusal → ℕ → Machine → List ℕ → Called
+runCalled Accepted budget m memory = ran (run budget (over m memory))
+runCalled Ragged budget m memory = turnedAway Ragged m memory
+runCalled Size budget m memory = turnedAway Size m memory
+runCalled Status budget m memory = turnedAway Status m memory
+
+abbrev pub runCall : ℕ → Machine → List ℕ → Called
+runCall budget m memory = runCalled (refused m memory) budget m memory
+
+-- A step is a run with budget 1.
+abbrev pub stepCall : Machine → List ℕ → Called
+stepCall m memory = runCall 1 m memory
+
+-- "the blank one (registers zero, SR H'F0, stopped for reason 2)"
+abbrev pub startingAt : ℕ → Control
+startingAt pc = record { pc = pc; sr = 0xf0; gbr = 0; vbr = 0; pr = 0; mach = 0; macl = 0 }
+
+abbrev pub blank : Machine
+blank = record { r = replicate 16 0; control = startingAt 0; mode = Stopped Vector }
+
+-- "PC is the long at 0, R15 the long at 4, SR H'F0, mode running. All other registers are zero here"
+abbrev pub started : List ℕ → Machine
+started memory =
+    record {
+      r = set (replicate 16 0) 15 (valueAt 4 memory 4);
+      control = startingAt (valueAt 4 memory 0);
+      mode = Running
+    }
+
+abbrev pub resetBy : Refusal → List ℕ → Answer
+resetBy Accepted memory = record { refusal = Accepted; machine = started memory; steps = 0 }
+resetBy Ragged memory = record { refusal = Ragged; machine = blank; steps = 0 }
+resetBy Size memory = record { refusal = Size; machine = blank; steps = 0 }
+resetBy Status memory = record { refusal = Status; machine = blank; steps = 0 }
+
+abbrev pub resetCall : List ℕ → Answer
+resetCall memory = resetBy (refusedMemory memory) memory

@@ -1,0 +1,4 @@
+pub mod Exceptions
+pub mod Step
+pub mod Run
+pub mod Calls

@@ -1,0 +1,20 @@
+-- A run: document 01, "Run". It takes exactly its budget of steps, fewer only when the machine sleeps or stops.
+use mathlib.Core.Bool.{cond}
+use Prim.Native.Nat.{ℕ, zero, suc}
+use Rattle.machine.specs.Exceptions.{Situation}
+use Rattle.machine.specs.Step.{halted, step}
+
+pub record Ran : Type 0 where
+  pub after : Situation
+  pub steps : ℕ
+
+abbrev pub still : Situation → Ran
+still x = record { after = x; steps = 0 }
+
+-- What follows, with one more step before it.
+abbrev pub oneMore : Ran → Ran
+oneMore later = record { after = later .after; steps = suc (later .steps) }
+
+unfoldable pub run : ℕ → Situation → Ran
+run zero x = still x
+run (suc budget) x = cond (halted (x .mode)) (still x) (oneMore (run budget (step x)))

@@ -1,0 +1,67 @@
+-- One step: document 01, "One step".
+use mathlib.Core.Bool.{Bool, true, false, _||_, cond}
+use Prim.Native.Nat.{ℕ, _+_}
+use Rattle.numbers.specs.Numbers.{word}
+use Rattle.memory.specs.Access.{loaded}
+use Rattle.memory.specs.declared.Loaded.{Loaded}
+use Rattle.memory.specs.declared.Loaded.the-variants as loads
+use Rattle.decoder.specs.Code.{meaning}
+use Rattle.decoder.specs.Slot.{undefined, rewritesPc}
+use Rattle.decoder.specs.declared.meaning.Meaning.{Meaning}
+use Rattle.instructions.specs.State.{State, withPc}
+use Rattle.instructions.specs.Shapes.{Effect}
+use Rattle.instructions.specs.Execute.{execute}
+use Rattle.instructions.specs.declared.Flow.{Flow}
+use Rattle.instructions.specs.declared.Flow.the-variants.{Next, Jump, Delay, Sleep, Trap, Fault}
+use Rattle.machine.specs.declared.Stop.the-variants.{Branch}
+use Rattle.machine.specs.declared.Mode.{Mode}
+use Rattle.machine.specs.declared.Mode.the-variants.{Running, Slot, Asleep, Stopped}
+use Rattle.machine.specs.Exceptions.{Situation, at, savedPc, enter, generalIllegal, illegalSlot, addressError}
+
+-- The next word, or in a slot the target.
+abbrev pub nextPc : Mode → State → ℕ
+nextPc mode s = savedPc mode (word (s .control .pc + 2))
+
+-- A taken delayed branch: "PC moves on by 2 and the mode becomes "in a slot" with the target"; "reason 3: a delayed branch is taken
+-- while another's target still waits"
+abbrev pub delayed : Mode → ℕ → State → State → Situation
+delayed Running target before after = at (Slot target) (withPc (word (after .control .pc + 2)) after)
+delayed (Slot waiting) target before after = at (Stopped Branch) before
+delayed Asleep target before after = at Asleep before
+delayed (Stopped reason) target before after = at (Stopped reason) before
+
+-- Where PC and mode go after an instruction: items 4 and 5. before is the state as the instruction found it.
+abbrev pub settle : Flow → Mode → State → State → Situation
+settle Next mode before after = at Running (withPc (nextPc mode before) after)
+settle (Jump target) mode before after = at Running (withPc target after)
+settle (Delay target) mode before after = delayed mode target before after
+settle Sleep mode before after = at Asleep (withPc (nextPc mode before) after)
+settle (Trap number) mode before after = enter number (nextPc mode before) before
+settle Fault mode before after = enter addressError (nextPc mode before) before
+
+abbrev pub performed : Mode → State → Effect → Situation
+performed mode s e = settle (e .flow) mode s (e .after)
+
+-- Item 3, "In a slot: an undefined word, or one that rewrites the PC, is an illegal slot. Not in a slot: an undefined word is a general
+-- illegal instruction."
+abbrev pub decoded : Mode → Meaning → State → Situation
+decoded (Slot target) x s =
+    cond (undefined x || rewritesPc x) (enter illegalSlot target s) (performed (Slot target) s (execute x s))
+decoded Running x s = cond (undefined x) (enter generalIllegal (s .control .pc) s) (performed Running s (execute x s))
+decoded Asleep x s = at Asleep s
+decoded (Stopped reason) x s = at (Stopped reason) s
+
+-- Item 2, "Fetch the word at PC. PC odd or the word outside: address error."
+abbrev pub fetched : Mode → Loaded → State → Situation
+fetched mode (loads.Value w) s = decoded mode (meaning w) s
+fetched mode loads.Fault s = enter addressError (savedPc mode (s .control .pc)) s
+
+-- Item 1, "Asleep or stopped: nothing happens and no step is counted."
+abbrev pub halted : Mode → Bool
+halted Running = false
+halted (Slot target) = false
+halted Asleep = true
+halted (Stopped reason) = true
+
+unfoldable pub step : Situation → Situation
+step x = cond (halted (x .mode)) x (fetched (x .mode) (loaded 2 (x .state .memory) (x .state .control .pc)) (x .state))
