@@ -1,12 +1,12 @@
 -- Laws over any list of rows: what a test that passes at each row says of the row that a word finds.
 -- Assumes nothing.
 use mathlib.Core.Path.{_≡_, refl, sym, _∙_, ap, subst}
-use mathlib.Core.Bool.{Bool, true, false, _&&_, not}
+use mathlib.Core.Bool.{Bool, true, false, _&&_, not, cond}
 use mathlib.Core.List.{List, [], _∷_, List·Memᴰ, List·Memᴰ·head, List·Memᴰ·tail}
 use Prim.Native.Nat.{ℕ, suc, _≤_}
 use native.Mathlib.Omega.{arith}
 use lib.Dec.{T}
-use Rattle.decoder.specs.Pattern.{Nibbles, pick}
+use Rattle.decoder.specs.Pattern.{Nibbles}
 use Rattle.decoder.specs.Code.{among, counted, howMany, rowMatches, rowMeans}
 use Rattle.decoder.specs.Table.{Row}
 use Rattle.decoder.specs.declared.meaning.Meaning.{Meaning}
@@ -26,15 +26,15 @@ at : (f : Row → Bool) (rows : List Row) {q : Row} → T (every f rows) → Lis
 at f (r ∷ rest) t (List·Memᴰ·head e) = subst (λ z. T (f z)) (sym e) (left (f r) _ t)
 at f (r ∷ rest) t (List·Memᴰ·tail h) = at f rest (right (f r) _ t) h
 
-chosen : (a c : Meaning) (b : Bool) → T b → pick b a c ≡ a
+chosen : (a c : Meaning) (b : Bool) → T b → cond b a c ≡ a
 chosen a c true t = refl
 chosen a c false t = absurd t
 
-either-way : (P : Meaning → Type 0) {a c : Meaning} (b : Bool) → (T b → P a) → (T (not b) → P c) → P (pick b a c)
+either-way : (P : Meaning → Type 0) {a c : Meaning} (b : Bool) → (T b → P a) → (T (not b) → P c) → P (cond b a c)
 either-way P true x y = x tt
 either-way P false x y = y tt
 
-paired : (P : Meaning → ℕ → Type 0) {a c : Meaning} {k : ℕ} (b : Bool) → P a (suc k) → P c k → P (pick b a c) (counted b k)
+paired : (P : Meaning → ℕ → Type 0) {a c : Meaning} {k : ℕ} (b : Bool) → P a (suc k) → P c k → P (cond b a c) (counted b k)
 paired P true x y = x
 paired P false x y = y
 
@@ -103,6 +103,6 @@ module _ (w : Nibbles) where
       where
         go :
             (b : Bool) → (T b → rowMatches w q ≡ false) → among rest w ≡ rowMeans w q →
-            pick b (rowMeans w r) (among rest w) ≡ rowMeans w q
+            cond b (rowMeans w r) (among rest w) ≡ rowMeans w q
         go true unlike e = absurd (subst (λ z. T z) (unlike tt) m)
         go false unlike e = e

@@ -1,8 +1,8 @@
 -- The meaning of a word: what the row that matches it says. A word that no row matches is undefined.
-use mathlib.Core.Bool.{Bool, true, false}
+use mathlib.Core.Bool.{Bool, true, false, cond}
 use mathlib.Core.List.{List, [], _∷_}
 use Prim.Native.Nat.{ℕ, suc}
-use Rattle.decoder.specs.Pattern.{Nibbles, nibbles, code, fields, matches, pick}
+use Rattle.decoder.specs.Pattern.{Nibbles, nibbles, code, fields, matches}
 use Rattle.decoder.specs.Table.{Row, table}
 use Rattle.decoder.specs.declared.meaning.Meaning.{Meaning}
 use Rattle.decoder.specs.declared.meaning.Meaning.the-variants.{Undefined}
@@ -15,7 +15,7 @@ rowMeans w r = r .means (fields (code (r .pattern)) w)
 
 unfoldable pub among : List Row → Nibbles → Meaning
 among [] w = Undefined
-among (r ∷ rest) w = pick (rowMatches w r) (rowMeans w r) (among rest w)
+among (r ∷ rest) w = cond (rowMatches w r) (rowMeans w r) (among rest w)
 
 unfoldable pub meaning : ℕ → Meaning
 meaning w = among table (nibbles w)

@@ -1,15 +1,11 @@
 -- A code pattern of document 000, as "0011nnnnmmmm1100": what it fixes of a word, and what it reads from one.
 -- Section 5.1: mmmm is the source register, nnnn the destination register, iiii an immediate, dddd a displacement.
-use mathlib.Core.Bool.{Bool, true, false, _&&_, _||_}
+use mathlib.Core.Bool.{Bool, true, false, _&&_, _||_, cond}
 use mathlib.Core.List.{List, [], _∷_}
 use Prim.Native.Nat.{ℕ, _+_, _*_, _/_, _%_}
 use Prim.Native.String.{String, slice}
 use lib.Dec.{eqb}
 use lib.Text.{eqt}
-
-abbrev pub pick {ℓ} : {A : Type ℓ} → Bool → A → A → A
-pick true a b = a
-pick false a b = b
 
 -- A word's four nibbles: bits 15 to 12, 11 to 8, 7 to 4 and 3 to 0.
 pub record Nibbles : Type 0 where
@@ -27,11 +23,11 @@ pub data Group : Type 0 where
   part : String → Group
 
 abbrev bit : String → ℕ → ℕ
-bit s k = pick (eqt (slice s k (k + 1)) "1") 1 0
+bit s k = cond (eqt (slice s k (k + 1)) "1") 1 0
 
 abbrev group : String → Group
 group s =
-    pick (eqt s "nnnn" || eqt s "mmmm" || eqt s "iiii" || eqt s "dddd") (part s)
+    cond (eqt s "nnnn" || eqt s "mmmm" || eqt s "iiii" || eqt s "dddd") (part s)
     (fixed (bit s 0 * 8 + bit s 1 * 4 + bit s 2 * 2 + bit s 3))
 
 -- The sixteen characters, as four groups.
@@ -62,7 +58,7 @@ matches c w =
 -- A field is the number that the word's nibbles under its letters make.
 abbrev under : String → Group → ℕ → List ℕ → List ℕ
 under l (fixed k) x rest = rest
-under l (part s) x rest = pick (eqt s l) (x ∷ rest) rest
+under l (part s) x rest = cond (eqt s l) (x ∷ rest) rest
 
 abbrev onward : ℕ → List ℕ → ℕ
 onward a [] = a

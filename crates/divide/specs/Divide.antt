@@ -1,9 +1,9 @@
 -- The divide steps: document 000, sections 6.17 to 6.19, with document 01, "Instructions with corners", for DIV1.
 -- m and n are the values of Rm and Rn before the instruction, also where they are one register.
-use mathlib.Core.Bool.{Bool, not}
+use mathlib.Core.Bool.{Bool, not, cond}
 use Prim.Native.Nat.{ℕ, _+_, _*_, _-_, _/_, _^_}
 use lib.Dec.{eqb, leb, ltb}
-use Rattle.numbers.specs.Numbers.{pick, truth, word}
+use Rattle.numbers.specs.Numbers.{truth, word}
 use Rattle.divide.specs.declared.Bits.{Bits}
 use Rattle.divide.specs.declared.Divided.{Divided}
 
@@ -21,14 +21,14 @@ doubled n t = word (n * 2 + t)
 
 -- "Rm is subtracted if old Q = M, otherwise added, modulo 2^32"
 abbrev pub partialRemainder : Bool → ℕ → ℕ → ℕ
-partialRemainder subtract d m = pick subtract (word (d + 2 ^ 32 - m)) (word (d + m))
+partialRemainder subtract d m = cond subtract (word (d + 2 ^ 32 - m)) (word (d + m))
 
 -- "a borrow or carry"
 abbrev pub borrowOrCarry : Bool → ℕ → ℕ → Bool
-borrowOrCarry subtract d m = pick subtract (ltb d m) (leb (2 ^ 32) (d + m))
+borrowOrCarry subtract d m = cond subtract (ltb d m) (leb (2 ^ 32) (d + m))
 
 abbrev pub flipped : Bool → ℕ → ℕ
-flipped b q = pick b (1 - q) q
+flipped b q = cond b (1 - q) q
 
 -- "Q becomes Rn's top bit", "flipped if M is 1 and flipped again on a borrow or carry"
 abbrev pub newQ : ℕ → ℕ → Bool → ℕ

@@ -1,11 +1,11 @@
 -- Multiplications, and multiplications that add to MACH and MACL: document 000, sections 6.20, 6.21, 6.29, 6.31 and 6.38 to 6.40,
 -- with document 01, "Instructions with corners", for the saturation. m and n are the two operands, h and l MACH and MACL, s is S.
-use mathlib.Core.Bool.{Bool}
+use mathlib.Core.Bool.{Bool, cond}
 use Prim.Native.Nat.{ℕ, _+_, _*_, _-_, _/_, _%_, _^_}
 use lib.Dec.{eqb}
 use lib.IntN.{ℤ, pos, negsuc, _+ℤ_, _*ℤ_}
 use lib.Signed.{ltZ}
-use Rattle.numbers.specs.Numbers.{pick, word, signed, signedWord, signedLong, lowLong, lowQuad}
+use Rattle.numbers.specs.Numbers.{word, signed, signedWord, signedLong, lowLong, lowQuad}
 use Rattle.multiply.specs.declared.Mac.{Mac}
 
 -- 64 bits, as MACH and MACL.
@@ -42,7 +42,7 @@ summed a product = split ((joined a + lowQuad product) % 2 ^ 64)
 
 -- A number held within two bounds.
 abbrev pub held : ℤ → ℤ → ℤ → ℤ
-held least most z = pick (ltZ z least) least (pick (ltZ most z) most z)
+held least most z = cond (ltZ z least) least (cond (ltZ most z) most z)
 
 -- 6.29 MAC.L. With S = 1: bits 47 to 0 are read as signed, the sum is held within -2^47 to 2^47 - 1, and bits 63 to 48 take its sign.
 abbrev pub macLHeld : Mac → ℤ → Mac
@@ -52,7 +52,7 @@ macLHeld a product =
 
 abbrev pub macL : Mac → ℕ → ℕ → ℕ → Mac
 macL a s m n =
-    pick (eqb s 1) (macLHeld a (signedLong n *ℤ signedLong m)) (summed a (signedLong n *ℤ signedLong m))
+    cond (eqb s 1) (macLHeld a (signedLong n *ℤ signedLong m)) (summed a (signedLong n *ℤ signedLong m))
 
 -- 6.31 MAC.W. With S = 1: the product is added to MACL as a signed number and held within -2^31 to 2^31 - 1; MACH stays.
 abbrev pub macWHeld : Mac → ℤ → Mac
@@ -64,5 +64,5 @@ macWHeld a product =
 
 abbrev pub macW : Mac → ℕ → ℕ → ℕ → Mac
 macW a s m n =
-    pick (eqb s 1) (macWHeld a (signedWord (n % 2 ^ 16) *ℤ signedWord (m % 2 ^ 16)))
+    cond (eqb s 1) (macWHeld a (signedWord (n % 2 ^ 16) *ℤ signedWord (m % 2 ^ 16)))
     (summed a (signedWord (n % 2 ^ 16) *ℤ signedWord (m % 2 ^ 16)))

@@ -12,7 +12,7 @@ use lib.Signed.{mag}
 use mir.Syntax.{w64}
 use mir.Val.{toZ, ofZ}
 use mir.Facts.{toZ-ofZ}
-use Rattle.numbers.specs.Numbers.{pick, signed}
+use Rattle.numbers.specs.Numbers.{signed}
 
 pub minus : (a b : ℕ) → pos a -ℤ pos b ≡ subℕ a b
 minus a zero = rw (leb·suc-zero a) (ap pos (omega arith))
@@ -43,7 +43,7 @@ mag-plus (negsuc a) (negsuc b) k l h g = omega arith
 pub mag-signed : (half x : ℕ) → mag (signed half x) < suc (x + (half + half))
 mag-signed half x = go (ltb x half)
   where
-    go : (t : Bool) → mag (pick t (pos x) (subℕ x (half + half))) < suc (x + (half + half))
+    go : (t : Bool) → mag (cond t (pos x) (subℕ x (half + half))) < suc (x + (half + half))
     go true = omega arith
     go false = mag-subℕ x (half + half) (suc (x + (half + half))) (omega arith) (omega arith)
 
@@ -80,6 +80,6 @@ mag-times (negsuc a) (negsuc b) k l h g = mul-le-mul h g
 pub abs-signed : (half x : ℕ) → x < half + half → natAbs (signed half x) ≤ half
 abs-signed half x h = go (ltb x half) refl
   where
-    go : (t : Bool) → ltb x half ≡ t → natAbs (pick t (pos x) (subℕ x (half + half))) ≤ half
+    go : (t : Bool) → ltb x half ≡ t → natAbs (cond t (pos x) (subℕ x (half + half))) ≤ half
     go true e = let l : x < half = ltb-true x half e in omega arith
     go false e = let l : half ≤ x = ltb-false x half e in rw (lt-ltb x (half + half) h) (omega arith)

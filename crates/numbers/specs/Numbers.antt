@@ -1,13 +1,9 @@
 -- How the manual's operations read the bits of a register: as a number below 2^32, or as a signed one (document 000, section 3.1).
-use mathlib.Core.Bool.{Bool, true, false, _||_}
+use mathlib.Core.Bool.{Bool, true, false, _||_, cond}
 use Prim.Native.Nat.{ℕ, suc, _+_, _-_, _%_, _^_}
 use lib.Dec.{ltb}
 use lib.IntN.{ℤ, pos, negsuc, subℕ}
 use lib.Signed.{ltZ}
-
-abbrev pub pick {ℓ} : {A : Type ℓ} → Bool → A → A → A
-pick true a b = a
-pick false a b = b
 
 -- A bit of SR, from what it tells.
 abbrev pub truth : Bool → ℕ
@@ -20,7 +16,7 @@ word x = x % 2 ^ 32
 
 -- A number read as signed: from half the width's numbers up it stands for a negative one.
 abbrev pub signed : ℕ → ℕ → ℤ
-signed half x = pick (ltb x half) (pos x) (subℕ x (half + half))
+signed half x = cond (ltb x half) (pos x) (subℕ x (half + half))
 
 abbrev pub signedByte : ℕ → ℤ
 signedByte x = signed (2 ^ 7) x

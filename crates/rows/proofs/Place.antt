@@ -1,11 +1,11 @@
 -- The row number of what a word means is the place of the row that matches the word: a test, computed over the rows, and its law.
 -- Assumes nothing.
 use mathlib.Core.Path.{_≡_}
-use mathlib.Core.Bool.{Bool, true, false, _&&_}
+use mathlib.Core.Bool.{Bool, true, false, _&&_, cond}
 use mathlib.Core.List.{List, [], _∷_}
 use Prim.Native.Nat.{ℕ, suc}
 use lib.Dec.{T, eqb, eqb→eq}
-use Rattle.decoder.specs.Pattern.{Nibbles, nibbles, pick}
+use Rattle.decoder.specs.Pattern.{Nibbles, nibbles}
 use Rattle.decoder.specs.Code.{among, meaning, rowMatches, rowMeans}
 use Rattle.decoder.specs.Table.{Row, table}
 use Rattle.decoder.specs.declared.meaning.Meaning.{Meaning}
@@ -19,7 +19,7 @@ module _ (w : Nibbles) where
   numbered k (r ∷ rest) = eqb (rowNumber (rowMeans w r)) k && numbered (suc k) rest
 
   one-or-other :
-      (x y : Meaning) (k l : ℕ) (b : Bool) → rowNumber x ≡ k → rowNumber y ≡ l → rowNumber (pick b x y) ≡ pick b k l
+      (x y : Meaning) (k l : ℕ) (b : Bool) → rowNumber x ≡ k → rowNumber y ≡ l → rowNumber (cond b x y) ≡ cond b k l
   one-or-other x y k l true e d = e
   one-or-other x y k l false e d = d
 

@@ -1,7 +1,8 @@
 -- The row number of an instruction: the place of its row in the code table, counted from 0, and 142 for an undefined word.
+use mathlib.Core.Bool.{cond}
 use mathlib.Core.List.{List, [], _∷_}
 use Prim.Native.Nat.{ℕ, suc}
-use Rattle.decoder.specs.Pattern.{Nibbles, pick}
+use Rattle.decoder.specs.Pattern.{Nibbles}
 use Rattle.decoder.specs.Code.{rowMatches}
 use Rattle.decoder.specs.Table.{Row}
 use Rattle.decoder.specs.declared.meaning.Meaning.{Meaning}
@@ -29,7 +30,7 @@ use Rattle.decoder.specs.declared.meaning.Return.the-variants.{Rte, Rts}
 -- The place of the row that matches a word, where the first of the rows has the place k.
 abbrev pub placeFrom : ℕ → List Row → Nibbles → ℕ
 placeFrom k [] w = k
-placeFrom k (r ∷ rest) w = pick (rowMatches w r) k (placeFrom (suc k) rest w)
+placeFrom k (r ∷ rest) w = cond (rowMatches w r) k (placeFrom (suc k) rest w)
 
 -- The same, told from the meaning alone.
 abbrev pub rowNumber : Meaning → ℕ
