@@ -33,8 +33,8 @@ use Rattle.decoder.specs.declared.meaning.BranchIf.the-variants.{Bf, BfS, Bt, B
 use Rattle.decoder.specs.declared.meaning.Branch.the-variants.{Bra, Bsr}
 use Rattle.decoder.specs.declared.meaning.BranchTo.the-variants.{Braf, Bsrf, Jmp, Jsr}
 use Rattle.decoder.specs.declared.meaning.Return.the-variants.{Rte, Rts}
-use Rattle.instructions.specs.declared.Flow.the-variants.{Next, Jump, Delay, Sleep as Sleeps, Trap}
-use Rattle.instructions.specs.State.{State, reg, withReg, tBit, sBit, qBit, mBit, mac, masked, withSr, withT, withMQT, withPr, withMac}
+use Rattle.instructions.specs.declared.control.Flow.the-variants.{Next, Jump, Delay, Sleep as Sleeps, Trap}
+use Rattle.instructions.specs.State.{State, reg, withReg, changed, tBit, sBit, qBit, mBit, mac, masked, withSr, withT, withMQT, withPr, withMac}
 use Rattle.instructions.specs.Shapes.{Effect, leads, next, gives, givesT, tells, givesMacl, givesMac, loading, storing, extended, effective, gbrIndexed, steppedOn, steppedBack, byteBecomes, withControlRegister, controlRegister, accumulating}
 
 unfoldable pub execute : Meaning → State → Effect
@@ -61,15 +61,15 @@ execute (Branch Bra d) s = leads (Delay (branch (2 ^ 11) (s .control .pc) d)) s
 -- 6.9 BRAF Rm
 execute (BranchTo Braf m) s = leads (Delay (far (s .control .pc) (reg m s))) s
 -- 6.10 BSR label
-execute (Branch Bsr d) s = leads (Delay (branch (2 ^ 11) (s .control .pc) d)) (withPr (following (s .control .pc)) s)
+execute (Branch Bsr d) s = leads (Delay (branch (2 ^ 11) (s .control .pc) d)) (changed (withPr (following (s .control .pc))) s)
 -- 6.11 BSRF Rm
-execute (BranchTo Bsrf m) s = leads (Delay (far (s .control .pc) (reg m s))) (withPr (following (s .control .pc)) s)
+execute (BranchTo Bsrf m) s = leads (Delay (far (s .control .pc) (reg m s))) (changed (withPr (following (s .control .pc))) s)
 -- 6.12 BT label
 execute (BranchIf Bt d) s = leads (cond (eqb (tBit s) 1) (Jump (branch (2 ^ 7) (s .control .pc) d)) Next) s
 -- 6.13 BT/S label
 execute (BranchIf BtS d) s = leads (cond (eqb (tBit s) 1) (Delay (branch (2 ^ 7) (s .control .pc) d)) Next) s
 -- 6.14 CLRMAC
-execute (NoOperand Clrmac) s = next (withMac 0 0 s)
+execute (NoOperand Clrmac) s = next (changed (withMac 0 0) s)
 -- 6.15 CLRT
 execute (NoOperand Clrt) s = tells 0 s
 -- 6.16 CMP/EQ #imm,R0
@@ -91,11 +91,11 @@ execute (CompareZero CmpPz n) s = tells (cmpPz (reg n s)) s
 -- 6.16 CMP/STR Rm,Rn
 execute (Compare CmpStr m n) s = tells (cmpStr (reg m s) (reg n s)) s
 -- 6.17 DIV0S Rm,Rn
-execute (Divide Div0s m n) s = let b = div0s (reg m s) (reg n s) in next (withMQT (b .m) (b .q) (b .t) s)
+execute (Divide Div0s m n) s = let b = div0s (reg m s) (reg n s) in next (changed (withMQT (b .m) (b .q) (b .t)) s)
 -- 6.18 DIV0U
-execute (NoOperand Div0u) s = next (withMQT (div0u .m) (div0u .q) (div0u .t) s)
+execute (NoOperand Div0u) s = next (changed (withMQT (div0u .m) (div0u .q) (div0u .t)) s)
 -- 6.19 DIV1 Rm,Rn
-execute (Divide Div1 m n) s = let d = div1 (reg m s) (reg n s) (mBit s) (qBit s) (tBit s) in next (withMQT (mBit s) (d .q) (d .t) (withReg n (d .value) s))
+execute (Divide Div1 m n) s = let d = div1 (reg m s) (reg n s) (mBit s) (qBit s) (tBit s) in next (changed (withMQT (mBit s) (d .q) (d .t)) (withReg n (d .value) s))
 -- 6.20 DMULS.L Rm,Rn
 execute (Multiply DmulsL m n) s = givesMac (dmulsL (reg m s) (reg n s)) s
 -- 6.21 DMULU.L Rm,Rn
@@ -113,31 +113,31 @@ execute (TwoRegisters ExtuW m n) s = gives n (extuW (reg m s)) s
 -- 6.25 JMP @Rm
 execute (BranchTo Jmp m) s = leads (Delay (reg m s)) s
 -- 6.26 JSR @Rm
-execute (BranchTo Jsr m) s = leads (Delay (reg m s)) (withPr (following (s .control .pc)) s)
+execute (BranchTo Jsr m) s = leads (Delay (reg m s)) (changed (withPr (following (s .control .pc))) s)
 -- 6.27 LDC Rm,GBR
-execute (LoadControl Gbr m) s = next (withControlRegister Gbr (reg m s) s)
+execute (LoadControl Gbr m) s = next (changed (withControlRegister Gbr (reg m s)) s)
 -- 6.27 LDC Rm,SR
-execute (LoadControl Sr m) s = next (withControlRegister Sr (reg m s) s)
+execute (LoadControl Sr m) s = next (changed (withControlRegister Sr (reg m s)) s)
 -- 6.27 LDC Rm,VBR
-execute (LoadControl Vbr m) s = next (withControlRegister Vbr (reg m s) s)
+execute (LoadControl Vbr m) s = next (changed (withControlRegister Vbr (reg m s)) s)
 -- 6.27 LDC.L @Rm+,GBR
-execute (LoadControlLong Gbr m) s = loading 4 (reg m s) (λ v. next (withControlRegister Gbr v (steppedOn 4 m s))) s
+execute (LoadControlLong Gbr m) s = loading 4 (reg m s) (λ v. next (changed (withControlRegister Gbr v) (steppedOn 4 m s))) s
 -- 6.27 LDC.L @Rm+,SR
-execute (LoadControlLong Sr m) s = loading 4 (reg m s) (λ v. next (withControlRegister Sr v (steppedOn 4 m s))) s
+execute (LoadControlLong Sr m) s = loading 4 (reg m s) (λ v. next (changed (withControlRegister Sr v) (steppedOn 4 m s))) s
 -- 6.27 LDC.L @Rm+,VBR
-execute (LoadControlLong Vbr m) s = loading 4 (reg m s) (λ v. next (withControlRegister Vbr v (steppedOn 4 m s))) s
+execute (LoadControlLong Vbr m) s = loading 4 (reg m s) (λ v. next (changed (withControlRegister Vbr v) (steppedOn 4 m s))) s
 -- 6.28 LDS Rm,MACH
-execute (LoadControl Mach m) s = next (withControlRegister Mach (reg m s) s)
+execute (LoadControl Mach m) s = next (changed (withControlRegister Mach (reg m s)) s)
 -- 6.28 LDS Rm,MACL
-execute (LoadControl Macl m) s = next (withControlRegister Macl (reg m s) s)
+execute (LoadControl Macl m) s = next (changed (withControlRegister Macl (reg m s)) s)
 -- 6.28 LDS Rm,PR
-execute (LoadControl Pr m) s = next (withControlRegister Pr (reg m s) s)
+execute (LoadControl Pr m) s = next (changed (withControlRegister Pr (reg m s)) s)
 -- 6.28 LDS.L @Rm+,MACH
-execute (LoadControlLong Mach m) s = loading 4 (reg m s) (λ v. next (withControlRegister Mach v (steppedOn 4 m s))) s
+execute (LoadControlLong Mach m) s = loading 4 (reg m s) (λ v. next (changed (withControlRegister Mach v) (steppedOn 4 m s))) s
 -- 6.28 LDS.L @Rm+,MACL
-execute (LoadControlLong Macl m) s = loading 4 (reg m s) (λ v. next (withControlRegister Macl v (steppedOn 4 m s))) s
+execute (LoadControlLong Macl m) s = loading 4 (reg m s) (λ v. next (changed (withControlRegister Macl v) (steppedOn 4 m s))) s
 -- 6.28 LDS.L @Rm+,PR
-execute (LoadControlLong Pr m) s = loading 4 (reg m s) (λ v. next (withControlRegister Pr v (steppedOn 4 m s))) s
+execute (LoadControlLong Pr m) s = loading 4 (reg m s) (λ v. next (changed (withControlRegister Pr v) (steppedOn 4 m s))) s
 -- 6.29 MAC.L @Rm+,@Rn+
 execute (MultiplyAdd MacL m n) s = accumulating 4 (λ a b. macL (mac s) (sBit s) a b) m n s
 -- 6.31 MAC.W @Rm+,@Rn+
@@ -243,7 +243,7 @@ execute (OneRegister Rotl n) s = givesT n (rotl (reg n s)) s
 -- 6.49 ROTR Rn
 execute (OneRegister Rotr n) s = givesT n (rotr (reg n s)) s
 -- 6.50 RTE
-execute (Return Rte) s = loading 4 (reg 15 s) (λ p. loading 4 (word (reg 15 s + 4)) (λ v. leads (Delay p) (withSr (masked v) (steppedOn 8 15 s))) s) s
+execute (Return Rte) s = loading 4 (reg 15 s) (λ p. loading 4 (word (reg 15 s + 4)) (λ v. leads (Delay p) (changed (withSr (masked v)) (steppedOn 8 15 s))) s) s
 -- 6.51 RTS
 execute (Return Rts) s = leads (Delay (s .control .pr)) s
 -- 6.52 SETT
@@ -271,29 +271,29 @@ execute (OneRegister Shlr16 n) s = gives n (shlr16 (reg n s)) s
 -- 6.59 SLEEP
 execute (NoOperand Sleep) s = leads Sleeps s
 -- 6.60 STC GBR,Rn
-execute (StoreControl Gbr n) s = gives n (controlRegister Gbr s) s
+execute (StoreControl Gbr n) s = gives n (controlRegister Gbr (s .control)) s
 -- 6.60 STC SR,Rn
-execute (StoreControl Sr n) s = gives n (controlRegister Sr s) s
+execute (StoreControl Sr n) s = gives n (controlRegister Sr (s .control)) s
 -- 6.60 STC VBR,Rn
-execute (StoreControl Vbr n) s = gives n (controlRegister Vbr s) s
+execute (StoreControl Vbr n) s = gives n (controlRegister Vbr (s .control)) s
 -- 6.60 STC.L GBR,@-Rn
-execute (StoreControlLong Gbr n) s = storing 4 (steppedBack 4 n s) (controlRegister Gbr s) (withReg n (steppedBack 4 n s) s) s
+execute (StoreControlLong Gbr n) s = storing 4 (steppedBack 4 n s) (controlRegister Gbr (s .control)) (withReg n (steppedBack 4 n s) s) s
 -- 6.60 STC.L SR,@-Rn
-execute (StoreControlLong Sr n) s = storing 4 (steppedBack 4 n s) (controlRegister Sr s) (withReg n (steppedBack 4 n s) s) s
+execute (StoreControlLong Sr n) s = storing 4 (steppedBack 4 n s) (controlRegister Sr (s .control)) (withReg n (steppedBack 4 n s) s) s
 -- 6.60 STC.L VBR,@-Rn
-execute (StoreControlLong Vbr n) s = storing 4 (steppedBack 4 n s) (controlRegister Vbr s) (withReg n (steppedBack 4 n s) s) s
+execute (StoreControlLong Vbr n) s = storing 4 (steppedBack 4 n s) (controlRegister Vbr (s .control)) (withReg n (steppedBack 4 n s) s) s
 -- 6.61 STS MACH,Rn
-execute (StoreControl Mach n) s = gives n (controlRegister Mach s) s
+execute (StoreControl Mach n) s = gives n (controlRegister Mach (s .control)) s
 -- 6.61 STS MACL,Rn
-execute (StoreControl Macl n) s = gives n (controlRegister Macl s) s
+execute (StoreControl Macl n) s = gives n (controlRegister Macl (s .control)) s
 -- 6.61 STS PR,Rn
-execute (StoreControl Pr n) s = gives n (controlRegister Pr s) s
+execute (StoreControl Pr n) s = gives n (controlRegister Pr (s .control)) s
 -- 6.61 STS.L MACH,@-Rn
-execute (StoreControlLong Mach n) s = storing 4 (steppedBack 4 n s) (controlRegister Mach s) (withReg n (steppedBack 4 n s) s) s
+execute (StoreControlLong Mach n) s = storing 4 (steppedBack 4 n s) (controlRegister Mach (s .control)) (withReg n (steppedBack 4 n s) s) s
 -- 6.61 STS.L MACL,@-Rn
-execute (StoreControlLong Macl n) s = storing 4 (steppedBack 4 n s) (controlRegister Macl s) (withReg n (steppedBack 4 n s) s) s
+execute (StoreControlLong Macl n) s = storing 4 (steppedBack 4 n s) (controlRegister Macl (s .control)) (withReg n (steppedBack 4 n s) s) s
 -- 6.61 STS.L PR,@-Rn
-execute (StoreControlLong Pr n) s = storing 4 (steppedBack 4 n s) (controlRegister Pr s) (withReg n (steppedBack 4 n s) s) s
+execute (StoreControlLong Pr n) s = storing 4 (steppedBack 4 n s) (controlRegister Pr (s .control)) (withReg n (steppedBack 4 n s) s) s
 -- 6.62 SUB Rm,Rn
 execute (TwoRegisters Sub m n) s = gives n (sub (reg m s) (reg n s)) s
 -- 6.63 SUBC Rm,Rn
@@ -305,7 +305,7 @@ execute (TwoRegisters SwapB m n) s = gives n (swapB (reg m s)) s
 -- 6.65 SWAP.W Rm,Rn
 execute (TwoRegisters SwapW m n) s = gives n (swapW (reg m s)) s
 -- 6.66 TAS.B @Rn
-execute (TasB n) s = loading 1 (reg n s) (λ v. storing 1 (reg n s) («or» 0x80 v) (withT (truth (eqb v 0)) s) s) s
+execute (TasB n) s = loading 1 (reg n s) (λ v. storing 1 (reg n s) («or» 0x80 v) (changed (withT (truth (eqb v 0))) s) s) s
 -- 6.67 TRAPA #imm
 execute (Trapa i) s = leads (Trap i) s
 -- 6.68 TST #imm,R0

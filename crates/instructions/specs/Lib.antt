@@ -1,3 +1,4 @@
 pub mod State
 pub mod Shapes
 pub mod Execute
+pub mod Promises

@@ -15,9 +15,10 @@ use Rattle.decoder.specs.declared.meaning.Address.{Address}
 use Rattle.decoder.specs.declared.meaning.Address.the-variants.{Indirect, Indexed, Displacement, GbrDisplacement}
 use Rattle.decoder.specs.declared.meaning.ControlRegister.{ControlRegister}
 use Rattle.decoder.specs.declared.meaning.ControlRegister.the-variants.{Gbr, Sr, Vbr, Mach, Macl, Pr}
-use Rattle.instructions.specs.State.{State, reg, withReg, masked, withSr, withT, withGbr, withVbr, withPr, withMac, withMemory}
-use Rattle.instructions.specs.declared.Flow.{Flow}
-use Rattle.instructions.specs.declared.Flow.the-variants.{Next, Fault}
+use Rattle.instructions.specs.State.{State, reg, withReg, changed, masked, withSr, withT, withGbr, withVbr, withPr, withMac, withMemory}
+use Rattle.instructions.specs.declared.control.Control.{Control}
+use Rattle.instructions.specs.declared.control.Flow.{Flow}
+use Rattle.instructions.specs.declared.control.Flow.the-variants.{Next, Fault}
 
 -- The state after an instruction, and where it leads.
 pub record Effect : Type 0 where
@@ -35,16 +36,20 @@ abbrev pub gives : ℕ → ℕ → State → Effect
 gives n v s = next (withReg n v s)
 
 abbrev pub givesT : ℕ → WithT → State → Effect
-givesT n w s = next (withT (w .t) (withReg n (w .value) s))
+givesT n w s = next (changed (withT (w .t)) (withReg n (w .value) s))
+
+-- A value beside a T that stays.
+abbrev pub keeping : ℕ → ℕ → WithT
+keeping v t = record { value = v; t = t }
 
 abbrev pub tells : ℕ → State → Effect
-tells t s = next (withT t s)
+tells t s = next (changed (withT t) s)
 
 abbrev pub givesMacl : ℕ → State → Effect
-givesMacl v s = next (withMac (s .control .mach) v s)
+givesMacl v s = next (changed (withMac (s .control .mach) v) s)
 
 abbrev pub givesMac : Mac → State → Effect
-givesMac a s = next (withMac (a .mach) (a .macl) s)
+givesMac a s = next (changed (withMac (a .mach) (a .macl)) s)
 
 -- An access of k bytes: what follows a load, or the fault without any effect; a store, or the fault.
 abbrev pub afterLoad : Loaded → (ℕ → Effect) → State → Effect
@@ -92,27 +97,27 @@ abbrev pub byteBecomes : (ℕ → ℕ) → State → Effect
 byteBecomes f s = loading 1 (gbrIndexed s) (λ v. storing 1 (gbrIndexed s) (f v) s s) s
 
 -- The registers that LDC and LDS write, and STC and STS read. LDC to SR masks (document 01, "Instructions with corners").
-abbrev pub withControlRegister : ControlRegister → ℕ → State → State
-withControlRegister Gbr v s = withGbr v s
-withControlRegister Sr v s = withSr (masked v) s
-withControlRegister Vbr v s = withVbr v s
-withControlRegister Mach v s = withMac v (s .control .macl) s
-withControlRegister Macl v s = withMac (s .control .mach) v s
-withControlRegister Pr v s = withPr v s
+abbrev pub withControlRegister : ControlRegister → ℕ → Control → Control
+withControlRegister Gbr v c = withGbr v c
+withControlRegister Sr v c = withSr (masked v) c
+withControlRegister Vbr v c = withVbr v c
+withControlRegister Mach v c = withMac v (c .macl) c
+withControlRegister Macl v c = withMac (c .mach) v c
+withControlRegister Pr v c = withPr v c
 
-abbrev pub controlRegister : ControlRegister → State → ℕ
-controlRegister Gbr s = s .control .gbr
-controlRegister Sr s = s .control .sr
-controlRegister Vbr s = s .control .vbr
-controlRegister Mach s = s .control .mach
-controlRegister Macl s = s .control .macl
-controlRegister Pr s = s .control .pr
+abbrev pub controlRegister : ControlRegister → Control → ℕ
+controlRegister Gbr c = c .gbr
+controlRegister Sr c = c .sr
+controlRegister Vbr c = c .vbr
+controlRegister Mach c = c .mach
+controlRegister Macl c = c .macl
+controlRegister Pr c = c .pr
 
 -- MAC.W and MAC.L: @Rn is read first; with m = n the two operands are neighbours, and the register steps twice.
 abbrev pub accumulating : ℕ → (ℕ → ℕ → Mac) → ℕ → ℕ → State → Effect
 accumulating k f m n s =
     loading k (reg n s)
     (λ b.
-        loading k (reg m (steppedOn k n s))
-        (λ a. givesMac (f a b) (steppedOn k m (steppedOn k n s))) s)
+    loading k (reg m (steppedOn k n s))
+    (λ a. givesMac (f a b) (steppedOn k m (steppedOn k n s))) s)
     s

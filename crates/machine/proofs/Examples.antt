@@ -32,17 +32,17 @@ runs-to-sleep :
     runCall 1000000 (started small) small ≡
     record {
       answer =
-        record {
-          refusal = Accepted;
-          machine =
-            record {
-              r = 5 ∷ (replicate 14 0 ++ (0x400 ∷ []));
-              control = record { pc = 0x204; sr = 0xf0; gbr = 0; vbr = 0; pr = 0; mach = 0; macl = 0 };
-              mode = Asleep
-            };
-          steps = 2
-        };
-      memory = small
+          record {
+            refusal = Accepted;
+            machine =
+                record {
+                  r = 5 ∷ (replicate 14 0 ++ (0x400 ∷ []));
+                  control = record { pc = 0x204; sr = 0xf0; gbr = 0; vbr = 0; pr = 0; mach = 0; macl = 0 };
+                  mode = Asleep;
+                };
+            steps = 2;
+          };
+      memory = small;
     }
 unfolding small image run step meaning among table execute accessible loaded valueAt
 runs-to-sleep = refl

@@ -7,7 +7,7 @@ use lib.Dec.{eqb, ltb}
 use lib.ListN.{length, replicate, set}
 use Rattle.memory.specs.Access.{valueAt}
 use Rattle.instructions.specs.State.{State, masked}
-use Rattle.instructions.specs.declared.Control.{Control}
+use Rattle.instructions.specs.declared.control.Control.{Control}
 use Rattle.machine.specs.declared.Answer.{Answer}
 use Rattle.machine.specs.declared.Machine.{Machine}
 use Rattle.machine.specs.declared.Mode.{Mode}
@@ -62,7 +62,7 @@ abbrev pub ran : Ran → Called
 ran x =
     record {
       answer = record { refusal = Accepted; machine = machineOf (x .after); steps = x .steps };
-      memory = x .after .state .memory
+      memory = x .after .state .memory;
     }
 
 abbrev pub runCalled : Refusal → ℕ → Machine → List ℕ → Called
@@ -91,7 +91,7 @@ started memory =
     record {
       r = set (replicate 16 0) 15 (valueAt 4 memory 4);
       control = startingAt (valueAt 4 memory 0);
-      mode = Running
+      mode = Running;
     }
 
 abbrev pub resetBy : Refusal → List ℕ → Answer

@@ -4,7 +4,7 @@ use mathlib.Core.List.{List}
 use Prim.Native.Nat.{ℕ, _+_, _*_}
 use Rattle.numbers.specs.Numbers.{word}
 use Rattle.memory.specs.Access.{accessible, storedAt, valueAt}
-use Rattle.instructions.specs.State.{State, withReg, withMemory, withPc}
+use Rattle.instructions.specs.State.{State, withReg, withMemory, changed, withPc}
 use Rattle.instructions.specs.Shapes.{steppedBack}
 use Rattle.machine.specs.declared.Stop.{Stop}
 use Rattle.machine.specs.declared.Stop.the-variants.{Push, Vector, Branch}
@@ -45,7 +45,7 @@ vector number s = word (s .control .vbr + 4 * number)
 abbrev pub entered : ℕ → ℕ → State → Situation
 entered number saved s =
     at Running
-    (withPc (valueAt 4 (pushed saved s) (vector number s)) (withMemory (pushed saved s) (withReg 15 (steppedBack 8 15 s) s)))
+    (changed (withPc (valueAt 4 (pushed saved s) (vector number s))) (withMemory (pushed saved s) (withReg 15 (steppedBack 8 15 s) s)))
 
 -- "The machine stops, with memory and registers as before the step, for reason 1: R15 is not a multiple of 4, or a store would fall
 -- outside; else reason 2: the vector's address is misaligned or outside"

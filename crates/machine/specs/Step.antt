@@ -8,11 +8,11 @@ use Rattle.memory.specs.declared.Loaded.the-variants as loads
 use Rattle.decoder.specs.Code.{meaning}
 use Rattle.decoder.specs.Slot.{undefined, rewritesPc}
 use Rattle.decoder.specs.declared.meaning.Meaning.{Meaning}
-use Rattle.instructions.specs.State.{State, withPc}
+use Rattle.instructions.specs.State.{State, changed, withPc}
 use Rattle.instructions.specs.Shapes.{Effect}
 use Rattle.instructions.specs.Execute.{execute}
-use Rattle.instructions.specs.declared.Flow.{Flow}
-use Rattle.instructions.specs.declared.Flow.the-variants.{Next, Jump, Delay, Sleep, Trap, Fault}
+use Rattle.instructions.specs.declared.control.Flow.{Flow}
+use Rattle.instructions.specs.declared.control.Flow.the-variants.{Next, Jump, Delay, Sleep, Trap, Fault}
 use Rattle.machine.specs.declared.Stop.the-variants.{Branch}
 use Rattle.machine.specs.declared.Mode.{Mode}
 use Rattle.machine.specs.declared.Mode.the-variants.{Running, Slot, Asleep, Stopped}
@@ -25,17 +25,17 @@ nextPc mode s = savedPc mode (word (s .control .pc + 2))
 -- A taken delayed branch: "PC moves on by 2 and the mode becomes "in a slot" with the target"; "reason 3: a delayed branch is taken
 -- while another's target still waits"
 abbrev pub delayed : Mode → ℕ → State → State → Situation
-delayed Running target before after = at (Slot target) (withPc (word (after .control .pc + 2)) after)
+delayed Running target before after = at (Slot target) (changed (withPc (word (after .control .pc + 2))) after)
 delayed (Slot waiting) target before after = at (Stopped Branch) before
 delayed Asleep target before after = at Asleep before
 delayed (Stopped reason) target before after = at (Stopped reason) before
 
 -- Where PC and mode go after an instruction: items 4 and 5. before is the state as the instruction found it.
 abbrev pub settle : Flow → Mode → State → State → Situation
-settle Next mode before after = at Running (withPc (nextPc mode before) after)
-settle (Jump target) mode before after = at Running (withPc target after)
+settle Next mode before after = at Running (changed (withPc (nextPc mode before)) after)
+settle (Jump target) mode before after = at Running (changed (withPc target) after)
 settle (Delay target) mode before after = delayed mode target before after
-settle Sleep mode before after = at Asleep (withPc (nextPc mode before) after)
+settle Sleep mode before after = at Asleep (changed (withPc (nextPc mode before)) after)
 settle (Trap number) mode before after = enter number (nextPc mode before) before
 settle Fault mode before after = enter addressError (nextPc mode before) before
 
