@@ -1,15 +1,18 @@
 // What the instructions on general registers compute (document 000, chapter 6): a value for Rn, and T. An instruction that has nothing
 // to say of T keeps it.
+use arithmetic::compares;
 use arithmetic::logic;
 use arithmetic::sums;
 use arithmetic::transfers;
+use decoder::Compare;
+use decoder::CompareZero;
 use decoder::Meaning;
 use decoder::OneRegister;
 use decoder::TwoRegisters;
 use numbers::WithT;
 ghost use mathlib.Core.Path.{_≡_};
 ghost use Prim.Native.Nat.{ℕ};
-ghost use Rattle.instructions.specs.Promises.{Gives};
+ghost use Rattle.instructions.specs.Promises.{Gives, Tells};
 ghost use Rattle.instructions.specs.Shapes.{keeping};
 
 // From Rm, Rn and T.
@@ -61,6 +64,31 @@ pub fn of_one_register(operation: OneRegister, b: u32, t: u32) -> WithT
         OneRegister::Shlr2 => kept(shifts::shlr2(b), t),
         OneRegister::Shlr8 => kept(shifts::shlr8(b), t),
         OneRegister::Shlr16 => kept(shifts::shlr16(b), t),
+    }
+}
+
+// T, from Rm and Rn.
+pub fn of_compare(operation: Compare, a: u32, b: u32) -> u32
+    ensures { λ t. ⌜ Tells (λ m n. Meaning.Compare operation m n) a b t ⌝ }
+{
+    match operation {
+        Compare::CmpEq => compares::cmp_eq(a, b),
+        Compare::CmpGe => compares::cmp_ge(a, b),
+        Compare::CmpGt => compares::cmp_gt(a, b),
+        Compare::CmpHi => compares::cmp_hi(a, b),
+        Compare::CmpHs => compares::cmp_hs(a, b),
+        Compare::CmpStr => compares::cmp_str(a, b),
+        Compare::Tst => logic::tst(a, b),
+    }
+}
+
+// T, from Rn.
+pub fn of_compare_zero(operation: CompareZero, b: u32) -> u32
+    ensures { λ t. ⌜ ((a : ℕ) → Tells (λ m n. Meaning.CompareZero operation n) a b t) ⌝ }
+{
+    match operation {
+        CompareZero::CmpPl => compares::cmp_pl(b),
+        CompareZero::CmpPz => compares::cmp_pz(b),
     }
 }
 

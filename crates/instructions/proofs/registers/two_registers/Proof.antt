@@ -1,0 +1,58 @@
+-- `two_registers` puts the value into Rn and T into SR.
+-- Assumes nothing.
+use mathlib.Core.Path.{refl}
+use Rattle.instructions.specs.Promises.{state}
+use borrow.Author.Needs.{needs}
+use Rattle.instructions.proofs.registers.two_registers.Statement.{statement}
+use Rattle.instructions.proofs.registers.two_registers.Tie as tie
+
+cast-from : tie.Need-cast-from
+cast-from c = search needs
+
+cast-into : tie.Need-cast-into
+cast-into c = search needs
+
+mul-of-two-registers : tie.Need-mul-of-two-registers
+mul-of-two-registers c = search needs
+
+element-copy-out-of-two-registers : tie.Need-element-copy-out-of-two-registers
+element-copy-out-of-two-registers c = search needs
+
+mul-of-two-registers-2 : tie.Need-mul-of-two-registers-2
+mul-of-two-registers-2 c = search needs
+
+element-copy-out-of-two-registers-2 : tie.Need-element-copy-out-of-two-registers-2
+element-copy-out-of-two-registers-2 c = search needs
+
+of-two-registers-requires : tie.Need-of-two-registers-requires
+of-two-registers-requires c κs = search needs
+
+mul-r : tie.Need-mul-r
+mul-r c = search needs
+
+element-write-r : tie.Need-element-write-r
+element-write-r c = search needs
+
+with-t-requires : tie.Need-with-t-requires
+with-t-requires c κs = search needs
+
+returns : tie.Need-returns
+returns c = λ memory.
+    let a = c .before .before .before .before .before .args in
+    rw (c .with-t .ensures) (c .before .of-two-registers .ensures (a .m) (a .n) (state (a .r .now) (a .control) memory) refl refl refl)
+
+pub two-registers-spec : {M : Type 1} → statement M
+two-registers-spec =
+    tie.close
+    (tie.spec
+    cast-from
+    cast-into
+    mul-of-two-registers
+    element-copy-out-of-two-registers
+    mul-of-two-registers-2
+    element-copy-out-of-two-registers-2
+    of-two-registers-requires
+    mul-r
+    element-write-r
+    with-t-requires
+    returns)
