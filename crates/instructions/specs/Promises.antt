@@ -5,8 +5,10 @@ use Prim.Native.Nat.{ℕ}
 use Rattle.numbers.specs.declared.WithT.{WithT}
 use Rattle.decoder.specs.declared.meaning.Meaning.{Meaning}
 use Rattle.instructions.specs.Execute.{execute}
-use Rattle.instructions.specs.Shapes.{givesT, next, tells}
+use Rattle.instructions.specs.Shapes.{givesT, leads, next, tells}
 use Rattle.instructions.specs.declared.control.Control.{Control}
+use Rattle.instructions.specs.declared.control.Done.{Done}
+use Rattle.instructions.specs.declared.control.Flow.{Flow}
 use Rattle.instructions.specs.State.{State, reg, tBit}
 
 abbrev pub state : List ℕ → Control → List ℕ → State
@@ -15,6 +17,13 @@ state r c memory = record { registers = r; control = c; memory = memory }
 -- An instruction that works on registers alone: over every memory, it leads on to the next with these registers.
 abbrev pub Computes : Meaning → Control → List ℕ → Control → List ℕ → Type 0
 Computes x c r d q = (memory : List ℕ) → execute x (state r c memory) ≡ next (state q d memory)
+
+abbrev pub done : Control → Flow → Done
+done c f = record { control = c; flow = f }
+
+-- An instruction that changes no general register: over every memory, it leads where it says with these control registers.
+abbrev pub Decides : Meaning → Control → List ℕ → Done → Type 0
+Decides x c r d = (memory : List ℕ) → execute x (state r c memory) ≡ leads (d .flow) (state r (d .control) memory)
 
 -- T is what an instruction tells where Rm and Rn are a and b.
 abbrev pub Tells : (ℕ → ℕ → Meaning) → ℕ → ℕ → ℕ → Type 0

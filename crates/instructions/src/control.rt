@@ -1,5 +1,7 @@
 // The control registers, and where an instruction leads.
+use decoder::ControlRegister;
 ghost use mathlib.Core.Path.{_≡_};
+ghost use Rattle.instructions.specs.Shapes as Shapes;
 ghost use Rattle.instructions.specs.State as State;
 
 // The control registers (document 000, section 2.2) and system registers (2.3).
@@ -31,12 +33,50 @@ impl Control {
         self
     }
 
+    pub fn with_pr(mut self, pr: u32) -> Self
+        ensures { λ r. ⌜ r ≡ State.withPr pr self ⌝ }
+    {
+        self.pr = pr;
+        self
+    }
+
     pub fn with_mac(mut self, mach: u32, macl: u32) -> Self
         ensures { λ r. ⌜ r ≡ State.withMac mach macl self ⌝ }
     {
         self.mach = mach;
         self.macl = macl;
         self
+    }
+}
+
+impl Control {
+    // What LDC and LDS write. SR takes its mask.
+    pub fn with_register(mut self, register: ControlRegister, value: u32) -> Self
+        ensures { λ r. ⌜ r ≡ Shapes.withControlRegister register value self ⌝ }
+    {
+        match register {
+            ControlRegister::Gbr => self.gbr = value,
+            ControlRegister::Sr => self.sr = value & Self::SR_MASK,
+            ControlRegister::Vbr => self.vbr = value,
+            ControlRegister::Mach => self.mach = value,
+            ControlRegister::Macl => self.macl = value,
+            ControlRegister::Pr => self.pr = value,
+        }
+        self
+    }
+
+    // What STC and STS read.
+    pub fn register(self, register: ControlRegister) -> u32
+        ensures { λ r. ⌜ r ≡ Shapes.controlRegister register self ⌝ }
+    {
+        match register {
+            ControlRegister::Gbr => self.gbr,
+            ControlRegister::Sr => self.sr,
+            ControlRegister::Vbr => self.vbr,
+            ControlRegister::Mach => self.mach,
+            ControlRegister::Macl => self.macl,
+            ControlRegister::Pr => self.pr,
+        }
     }
 }
 

@@ -1,12 +1,16 @@
 // The instructions that work on registers alone (document 000, chapter 6), a function for each shape.
 use crate::control::Control;
 use crate::results;
+use arithmetic::compares;
+use arithmetic::logic;
 use arithmetic::sums;
 use arithmetic::transfers;
 use decoder::Compare;
 use decoder::CompareZero;
+use decoder::ControlRegister;
 use decoder::Divide;
 use decoder::Immediate;
+use decoder::ImmediateR0;
 use decoder::Meaning;
 use decoder::Multiply;
 use decoder::OneRegister;
@@ -116,4 +120,46 @@ pub fn immediate(operation: Immediate, i: u8, n: u8, control: Control, r: &mut [
             control
         }
     }
+}
+
+pub fn immediate_r0(operation: ImmediateR0, i: u8, control: Control, r: &mut [u32; 16]) -> Control
+    ensures { λ d. ⌜ Computes (Meaning.ImmediateR0 operation i) control (now (r .entry)) d (now (r .exit)) ⌝ }
+{
+    let b = r[0];
+    match operation {
+        ImmediateR0::AndImm => {
+            r[0] = logic::and(i as u32, b);
+            control
+        }
+        ImmediateR0::CmpEqImm => control.with_t(compares::cmp_eq(transfers::exts_b(i as u32), b)),
+        ImmediateR0::OrImm => {
+            r[0] = logic::or(i as u32, b);
+            control
+        }
+        ImmediateR0::TstImm => control.with_t(logic::tst(i as u32, b)),
+        ImmediateR0::XorImm => {
+            r[0] = logic::xor(i as u32, b);
+            control
+        }
+    }
+}
+
+pub fn load_control(register: ControlRegister, m: u8, control: Control, r: &[u32; 16]) -> Control
+    ensures { λ d. ⌜ Computes (Meaning.LoadControl register m) control (now (r .entry)) d (now (r .entry)) ⌝ }
+{
+    let from = (m % 16) as usize;
+    control.with_register(register, r[from])
+}
+
+pub fn store_control(
+    register: ControlRegister,
+    n: u8,
+    control: Control,
+    r: &mut [u32; 16],
+) -> Control
+    ensures { λ d. ⌜ Computes (Meaning.StoreControl register n) control (now (r .entry)) d (now (r .exit)) ⌝ }
+{
+    let into = (n % 16) as usize;
+    r[into] = control.register(register);
+    control
 }
