@@ -1,8 +1,10 @@
 #!/usr/bin/env python3
 """Makes crates/codes/stdout from the manual's patterns by arithmetic alone: python3 tests/codes.py > crates/codes/stdout
 
-The patterns are those of document 000, Table 5.9, in its order, read by hand against Table A.50 and document 004's list. A
-pattern's letters are free bits: k of them give 2 ** k words, the first with every free bit 0 and the last with every free bit 1.
+The patterns are those of document 000, Table 5.9, in its order, taken by the rule of docs/DECISIONS.md ("The code table") from that
+table, Table A.50 and document 004's list. It is the same reading as that of crates/decoder/specs/Table.antt: what this script checks is the
+decoder's counts and ends, not the reading. A pattern's letters are free bits: k of them give 2 ** k words, the first with every free
+bit 0 and the last with every free bit 1.
 """
 
 PATTERNS = """

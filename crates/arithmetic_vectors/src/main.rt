@@ -58,6 +58,7 @@ fn multiplications() {
     print_value(b"XOR R2,R2 ", logic::xor(0x12345678, 0x12345678));
     print_t(b"CMP/PZ R2 ", compares::cmp_pz(0));
     print_value(b"MOVT R0 ", transfers::movt(compares::cmp_pz(0)));
+    print_value(b"MOVT R1 ", transfers::movt(0));
     print_value(b"MUL.L R0,R1 ", multiply::mul_l(0xfffffffe, 0x5555));
     print_value(b"MULS.W R0,R1 ", multiply::muls_w(0xfffffffe, 0x5555));
     print_value(b"MULU.W R0,R1 ", multiply::mulu_w(2, 0xffffaaaa));

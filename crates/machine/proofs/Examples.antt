@@ -2,23 +2,18 @@
 -- "Run and compared".
 -- Assumes nothing.
 use mathlib.Core.Path.{_≡_, refl}
-use mathlib.Core.List.{List, [], _∷_, _++_, map}
+use mathlib.Core.List.{List, [], _∷_, _++_}
 use Prim.Native.Nat.{ℕ, zero, suc, _/_, _%_}
 use lib.ListN.{replicate, getD}
-use Rattle.memory.specs.Access.{accessible, loaded, valueAt, storedAt, written, put}
+use Rattle.memory.specs.Access.{accessible, loaded, valueAt}
 use Rattle.decoder.specs.Code.{meaning, among}
 use Rattle.decoder.specs.Table.{table}
 use Rattle.instructions.specs.Execute.{execute}
 use Rattle.machine.specs.declared.Mode.the-variants.{Running, Asleep}
 use Rattle.machine.specs.declared.Refusal.the-variants.{Accepted}
-use Rattle.machine.specs.Exceptions.{enter, at, Situation}
 use Rattle.machine.specs.Step.{step}
 use Rattle.machine.specs.Run.{run, Ran}
-use Rattle.machine.specs.Calls.{resetCall, runCall, started, over, startingAt}
-
-bytesOf : List ℕ → List ℕ
-bytesOf [] = []
-bytesOf (w ∷ ws) = w / 256 ∷ w % 256 ∷ bytesOf ws
+use Rattle.machine.specs.Calls.{runCall, started, over, startingAt}
 
 -- 1,024 bytes: PC H'200 and R15 H'400 in the first two longs, and a program of at most 256 words at H'200.
 image : List ℕ → List ℕ
@@ -55,27 +50,19 @@ pairs (suc n) = 0x41 ∷ 0x24 ∷ 0x32 ∷ 0x34 ∷ pairs n
 divider : List ℕ
 divider = image (0 ∷ 0x19 ∷ pairs 32)
 
--- high:low / divisor
-pub record Division : Type 0 where
-  pub high : ℕ
-  pub low : ℕ
-  pub divisor : ℕ
-
-dividing : Division → Ran
-dividing d =
-    run 66
-    (over
-    (record { r = 0 ∷ d .low ∷ d .high ∷ d .divisor ∷ replicate 12 0; control = startingAt 0x200; mode = Running })
-    divider)
-
--- low, high and Q afterwards; the PC and the steps taken
+-- high:low / divisor: low, high and Q afterwards, the PC and the steps taken
 outcome : Ran → List ℕ
 outcome x =
     let s = x .after .state in
     getD (s .registers) 1 0 ∷ getD (s .registers) 2 0 ∷ s .control .sr / 256 % 2 ∷ s .control .pc ∷ x .steps ∷ []
 
 divide : ℕ → ℕ → ℕ → List ℕ
-divide high low divisor = outcome (dividing (record { high = high; low = low; divisor = divisor }))
+divide high low divisor =
+    outcome
+    (run 66
+    (over
+    (record { r = 0 ∷ low ∷ high ∷ divisor ∷ replicate 12 0; control = startingAt 0x200; mode = Running })
+    divider))
 
 -- "0:100 / 7 gives 14, H'FFFFFFFB, 1. 1:0 / 3 gives H'55555555, 1, 0. 6:H'FFFFFFFF / 7 gives H'FFFFFFFF, 6, 0. 0:100 / 0 gives
 -- H'FFFFFFFF, 100, 0."
@@ -86,5 +73,5 @@ divisions :
     (0xffff_ffff ∷ 6 ∷ 0 ∷ 0x284 ∷ 66 ∷ []) ∷
     (0xffff_ffff ∷ 100 ∷ 0 ∷ 0x284 ∷ 66 ∷ []) ∷
     []
-unfolding divide outcome dividing divider pairs image run step meaning among table execute accessible loaded valueAt
+unfolding divide outcome divider pairs image run step meaning among table execute accessible loaded valueAt
 divisions = refl
