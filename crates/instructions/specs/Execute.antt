@@ -1,6 +1,6 @@
 -- What each instruction does, in the order of document 000 (Table 5.9, chapter 6), one clause an instruction. The state is that before
 -- the instruction: Rm, Rn, T and the rest are its values there, and the PC is the instruction's own address.
-use mathlib.Core.Bool.{cond}
+use mathlib.Core.Bool.{Bool, _&&_, cond}
 use Prim.Native.Nat.{ℕ, _+_, _^_}
 use lib.Dec.{eqb}
 use Rattle.numbers.specs.Numbers.{truth, word}
@@ -12,6 +12,7 @@ use Rattle.arithmetic.specs.Transfers.{extsB, extsW, extuB, extuW, movt, swapB,
 use Rattle.divide.specs.Divide.{div0s, div0u, div1}
 use Rattle.multiply.specs.Multiply.{dmulsL, dmuluL, mulL, mulsW, muluW, macL, macW}
 use Rattle.shifts.specs.Shifts.{rotcl, rotcr, rotl, rotr, shar, shll, shll2, shll8, shll16, shlr, shlr2, shlr8, shlr16}
+use Rattle.decoder.specs.Slot.{rewritesPc}
 use Rattle.decoder.specs.declared.meaning.Meaning.{Meaning}
 use Rattle.decoder.specs.declared.meaning.Meaning.the-variants.{Undefined, NoOperand, OneRegister, CompareZero, TwoRegisters, Compare, Divide, Multiply, MultiplyAdd, Immediate, ImmediateR0, ImmediateByte, Load, LoadIncrement, Store, StoreDecrement, Relative, LoadControl, LoadControlLong, StoreControl, StoreControlLong, TasB, BranchIf, Branch, BranchTo, Return, Trapa}
 use Rattle.decoder.specs.declared.meaning.NoOperand.the-variants.{Clrmac, Clrt, Div0u, Nop, Sett, Sleep}
@@ -33,7 +34,7 @@ use Rattle.decoder.specs.declared.meaning.BranchIf.the-variants.{Bf, BfS, Bt, B
 use Rattle.decoder.specs.declared.meaning.Branch.the-variants.{Bra, Bsr}
 use Rattle.decoder.specs.declared.meaning.BranchTo.the-variants.{Braf, Bsrf, Jmp, Jsr}
 use Rattle.decoder.specs.declared.meaning.Return.the-variants.{Rte, Rts}
-use Rattle.instructions.specs.declared.control.Flow.the-variants.{Next, Jump, Delay, Sleep as Sleeps, Trap}
+use Rattle.instructions.specs.declared.control.Flow.the-variants.{Next, Jump, Delay, Sleep as Sleeps, Trap, Illegal}
 use Rattle.instructions.specs.State.{State, reg, withReg, changed, tBit, sBit, qBit, mBit, mac, masked, withSr, withT, withMQT, withPr, withMac}
 use Rattle.instructions.specs.Shapes.{Effect, leads, next, gives, givesT, tells, givesMacl, givesMac, loading, storing, extended, effective, gbrIndexed, steppedOn, steppedBack, byteBecomes, withControlRegister, controlRegister, accumulating}
 
@@ -322,5 +323,9 @@ execute (TwoRegisters Xor m n) s = gives n (xor (reg m s) (reg n s)) s
 execute (ImmediateByte XorB i) s = byteBecomes (λ v. xor i v) s
 -- 6.70 XTRCT Rm,Rn
 execute (TwoRegisters Xtrct m n) s = gives n (xtrct (reg m s) (reg n s)) s
--- A word that the table lacks is no instruction: the step raises its exception instead.
-execute Undefined s = next s
+-- A word that the code table lacks.
+execute Undefined s = leads Illegal s
+
+-- Document 01, "One step", item 3: in a slot, an instruction that rewrites the PC is as illegal as an undefined word.
+abbrev pub attempted : Bool → Meaning → State → Effect
+attempted slot x s = cond (slot && rewritesPc x) (leads Illegal s) (execute x s)

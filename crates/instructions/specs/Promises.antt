@@ -1,29 +1,41 @@
 -- What the functions below `execute` promise: the clause of their instruction.
 use mathlib.Core.Path.{_≡_}
+use mathlib.Core.Bool.{Bool}
 use mathlib.Core.List.{List}
 use Prim.Native.Nat.{ℕ}
 use Rattle.numbers.specs.declared.WithT.{WithT}
 use Rattle.decoder.specs.declared.meaning.Meaning.{Meaning}
-use Rattle.instructions.specs.Execute.{execute}
-use Rattle.instructions.specs.Shapes.{givesT, leads, next, tells}
+use Rattle.instructions.specs.Execute.{attempted, execute}
+use Rattle.instructions.specs.Shapes.{givesT, leads, storing, tells}
 use Rattle.instructions.specs.declared.control.Control.{Control}
-use Rattle.instructions.specs.declared.control.Done.{Done}
 use Rattle.instructions.specs.declared.control.Flow.{Flow}
-use Rattle.instructions.specs.State.{State, reg, tBit}
+use Rattle.instructions.specs.declared.control.Flow.the-variants.{Next}
+use Rattle.instructions.specs.State.{State, reg, tBit, withSr}
 
 abbrev pub state : List ℕ → Control → List ℕ → State
 state r c memory = record { registers = r; control = c; memory = memory }
 
--- An instruction that works on registers alone: over every memory, it leads on to the next with these registers.
-abbrev pub Computes : Meaning → Control → List ℕ → Control → List ℕ → Type 0
-Computes x c r d q = (memory : List ℕ) → execute x (state r c memory) ≡ next (state q d memory)
+-- From these registers and this memory, the instruction leads where it says with those.
+abbrev pub Performs : Meaning → Control → List ℕ → List ℕ → Flow → Control → List ℕ → List ℕ → Type 0
+Performs x c r memory f d q after = execute x (state r c memory) ≡ leads f (state q d after)
 
-abbrev pub done : Control → Flow → Done
-done c f = record { control = c; flow = f }
+-- The same of what a step attempts, in a slot or not.
+abbrev pub Attempts : Bool → Meaning → Control → List ℕ → List ℕ → Flow → Control → List ℕ → List ℕ → Type 0
+Attempts slot x c r memory f d q after = attempted slot x (state r c memory) ≡ leads f (state q d after)
 
--- An instruction that changes no general register: over every memory, it leads where it says with these control registers.
-abbrev pub Decides : Meaning → Control → List ℕ → Done → Type 0
-Decides x c r d = (memory : List ℕ) → execute x (state r c memory) ≡ leads (d .flow) (state r (d .control) memory)
+-- An instruction that has nothing to do with any control register but SR.
+abbrev pub OnSr : Meaning → ℕ → List ℕ → List ℕ → Flow → ℕ → List ℕ → List ℕ → Type 0
+OnSr x sr r memory f sr' q after = (c : Control) → Performs x (withSr sr c) r memory f (withSr sr' c) q after
+
+-- One that works on SR and the general registers alone, and leads on to the next.
+abbrev pub Computes : Meaning → ℕ → List ℕ → ℕ → List ℕ → Type 0
+Computes x sr r sr' q = (memory : List ℕ) → OnSr x sr r memory Next sr' q memory
+
+-- A byte stored over the one that was read, in every state with this memory.
+abbrev pub Replaces : ℕ → ℕ → List ℕ → Flow → List ℕ → Type 0
+Replaces byte at memory f after =
+    (r : List ℕ) (c : Control) →
+    storing 1 at byte (state r c memory) (state r c memory) ≡ leads f (state r c after)
 
 -- T is what an instruction tells where Rm and Rn are a and b.
 abbrev pub Tells : (ℕ → ℕ → Meaning) → ℕ → ℕ → ℕ → Type 0

@@ -45,6 +45,11 @@ mac s = record { mach = s .control .mach; macl = s .control .macl }
 abbrev pub masked : ℕ → ℕ
 masked x = bitAnd x 0x3f3
 
+-- The control registers by name.
+abbrev pub control : (pc sr gbr vbr pr mach macl : ℕ) → Control
+control pc sr gbr vbr pr mach macl =
+    record { pc = pc; sr = sr; gbr = gbr; vbr = vbr; pr = pr; mach = mach; macl = macl }
+
 abbrev pub withPc : ℕ → Control → Control
 withPc v c =
     record { pc = v; sr = c .sr; gbr = c .gbr; vbr = c .vbr; pr = c .pr; mach = c .mach; macl = c .macl }
@@ -54,11 +59,17 @@ withSr v c =
     record { pc = c .pc; sr = v; gbr = c .gbr; vbr = c .vbr; pr = c .pr; mach = c .mach; macl = c .macl }
 
 -- T alone; M, Q and T. Each is one bit. I and S stay.
+abbrev pub srWithT : ℕ → ℕ → ℕ
+srWithT t sr = sr / 2 * 2 + t % 2
+
+abbrev pub srWithMQT : ℕ → ℕ → ℕ → ℕ → ℕ
+srWithMQT m q t sr = m % 2 * 2 ^ 9 + q % 2 * 2 ^ 8 + sr / 2 % 2 ^ 7 * 2 + t % 2
+
 abbrev pub withT : ℕ → Control → Control
-withT t c = withSr (c .sr / 2 * 2 + t % 2) c
+withT t c = withSr (srWithT t (c .sr)) c
 
 abbrev pub withMQT : ℕ → ℕ → ℕ → Control → Control
-withMQT m q t c = withSr (m % 2 * 2 ^ 9 + q % 2 * 2 ^ 8 + c .sr / 2 % 2 ^ 7 * 2 + t % 2) c
+withMQT m q t c = withSr (srWithMQT m q t (c .sr)) c
 
 abbrev pub withGbr : ℕ → Control → Control
 withGbr v c =

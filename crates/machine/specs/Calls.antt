@@ -16,7 +16,7 @@ use Rattle.machine.specs.declared.Refusal.{Refusal}
 use Rattle.machine.specs.declared.Refusal.the-variants.{Accepted, Ragged, Size, Status}
 use Rattle.machine.specs.declared.Stop.the-variants.{Vector}
 use Rattle.machine.specs.Exceptions.{Situation, at}
-use Rattle.machine.specs.Run.{Ran, run}
+use Rattle.machine.specs.Run.{Ran, run, stepped}
 
 -- Document 01's number of a refusal; 0 for none.
 abbrev pub refusalNumber : Refusal → ℕ
@@ -65,18 +65,18 @@ ran x =
       memory = x .after .state .memory;
     }
 
-abbrev pub runCalled : Refusal → ℕ → Machine → List ℕ → Called
-runCalled Accepted budget m memory = ran (run budget (over m memory))
-runCalled Ragged budget m memory = turnedAway Ragged m memory
-runCalled Size budget m memory = turnedAway Size m memory
-runCalled Status budget m memory = turnedAway Status m memory
+-- A call that does this, unless it is refused.
+abbrev pub calling : Refusal → Ran → Machine → List ℕ → Called
+calling Accepted x m memory = ran x
+calling Ragged x m memory = turnedAway Ragged m memory
+calling Size x m memory = turnedAway Size m memory
+calling Status x m memory = turnedAway Status m memory
 
 abbrev pub runCall : ℕ → Machine → List ℕ → Called
-runCall budget m memory = runCalled (refused m memory) budget m memory
+runCall budget m memory = calling (refused m memory) (run budget (over m memory)) m memory
 
--- A step is a run with budget 1.
 abbrev pub stepCall : Machine → List ℕ → Called
-stepCall m memory = runCall 1 m memory
+stepCall m memory = calling (refused m memory) (stepped (over m memory)) m memory
 
 -- "the blank one (registers zero, SR H'F0, stopped for reason 2)"
 abbrev pub startingAt : ℕ → Control

@@ -15,6 +15,10 @@ still x = record { after = x; steps = 0 }
 abbrev pub oneMore : Ran → Ran
 oneMore later = record { after = later .after; steps = suc (later .steps) }
 
+-- A step, and whether it counts.
+abbrev pub stepped : Situation → Ran
+stepped x = record { after = step x; steps = cond (halted (x .mode)) 0 1 }
+
 unfoldable pub run : ℕ → Situation → Ran
 run zero x = still x
 run (suc budget) x = cond (halted (x .mode)) (still x) (oneMore (run budget (step x)))

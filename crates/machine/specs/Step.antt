@@ -1,18 +1,17 @@
 -- One step: document 01, "One step".
-use mathlib.Core.Bool.{Bool, true, false, _||_, cond}
+use mathlib.Core.Bool.{Bool, true, false, cond}
 use Prim.Native.Nat.{ℕ, _+_}
 use Rattle.numbers.specs.Numbers.{word}
 use Rattle.memory.specs.Access.{loaded}
 use Rattle.memory.specs.declared.Loaded.{Loaded}
 use Rattle.memory.specs.declared.Loaded.the-variants as loads
 use Rattle.decoder.specs.Code.{meaning}
-use Rattle.decoder.specs.Slot.{undefined, rewritesPc}
 use Rattle.decoder.specs.declared.meaning.Meaning.{Meaning}
 use Rattle.instructions.specs.State.{State, changed, withPc}
 use Rattle.instructions.specs.Shapes.{Effect}
-use Rattle.instructions.specs.Execute.{execute}
+use Rattle.instructions.specs.Execute.{attempted}
 use Rattle.instructions.specs.declared.control.Flow.{Flow}
-use Rattle.instructions.specs.declared.control.Flow.the-variants.{Next, Jump, Delay, Sleep, Trap, Fault}
+use Rattle.instructions.specs.declared.control.Flow.the-variants.{Next, Jump, Delay, Sleep, Trap, Fault, Illegal}
 use Rattle.machine.specs.declared.Stop.the-variants.{Branch}
 use Rattle.machine.specs.declared.Mode.{Mode}
 use Rattle.machine.specs.declared.Mode.the-variants.{Running, Slot, Asleep, Stopped}
@@ -21,6 +20,17 @@ use Rattle.machine.specs.Exceptions.{Situation, at, savedPc, enter, gene
 -- The next word, or in a slot the target.
 abbrev pub nextPc : Mode → State → ℕ
 nextPc mode s = savedPc mode (word (s .control .pc + 2))
+
+-- Item 3, "In a slot: an undefined word, or one that rewrites the PC, is an illegal slot. Not in a slot: an undefined word is a general
+-- illegal instruction."
+abbrev pub inSlot : Mode → Bool
+inSlot (Slot target) = true
+inSlot Running = false
+inSlot Asleep = false
+inSlot (Stopped reason) = false
+
+abbrev pub illegalNumber : Mode → ℕ
+illegalNumber mode = cond (inSlot mode) illegalSlot generalIllegal
 
 -- A taken delayed branch: "PC moves on by 2 and the mode becomes "in a slot" with the target"; "reason 3: a delayed branch is taken
 -- while another's target still waits"
@@ -38,18 +48,14 @@ settle (Delay target) mode before after = delayed mode target before after
 settle Sleep mode before after = at Asleep (changed (withPc (nextPc mode before)) after)
 settle (Trap number) mode before after = enter number (nextPc mode before) before
 settle Fault mode before after = enter addressError (nextPc mode before) before
+settle Illegal mode before after = enter (illegalNumber mode) (savedPc mode (before .control .pc)) before
 
 abbrev pub performed : Mode → State → Effect → Situation
 performed mode s e = settle (e .flow) mode s (e .after)
 
--- Item 3, "In a slot: an undefined word, or one that rewrites the PC, is an illegal slot. Not in a slot: an undefined word is a general
--- illegal instruction."
+-- Items 3 to 5.
 abbrev pub decoded : Mode → Meaning → State → Situation
-decoded (Slot target) x s =
-    cond (undefined x || rewritesPc x) (enter illegalSlot target s) (performed (Slot target) s (execute x s))
-decoded Running x s = cond (undefined x) (enter generalIllegal (s .control .pc) s) (performed Running s (execute x s))
-decoded Asleep x s = at Asleep s
-decoded (Stopped reason) x s = at (Stopped reason) s
+decoded mode x s = performed mode s (attempted (inSlot mode) x s)
 
 -- Item 2, "Fetch the word at PC. PC odd or the word outside: address error."
 abbrev pub fetched : Mode → Loaded → State → Situation

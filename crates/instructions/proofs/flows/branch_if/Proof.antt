@@ -1,9 +1,8 @@
--- `branch_if` leads to the target by T.
--- Assumes nothing.
-use Rattle.instructions.specs.Execute.{execute}
 use borrow.Author.Needs.{needs}
 use Rattle.instructions.proofs.flows.branch_if.Statement.{statement}
 use Rattle.instructions.proofs.flows.branch_if.Tie as tie
+use Rattle.instructions.proofs.flows.delay_if.Reads as delay-if-reads
+use Rattle.instructions.proofs.flows.jump_if.Reads as jump-if-reads
 
 branch-requires : tie.Need-branch-requires
 branch-requires c κs = search needs
@@ -33,20 +32,16 @@ delay-if-requires-2 : tie.Need-delay-if-requires-2
 delay-if-requires-2 c κs = search needs
 
 returns : tie.Need-returns
-unfolding execute
-returns c = λ r memory. rw (c .before .enum-told .given .1, c .jump-if .ensures, c .before .before .before .before .branch .ensures)
+returns c = ?
 
 returns-2 : tie.Need-returns-2
-unfolding execute
-returns-2 c = λ r memory. rw (c .before .enum-told2 .given .1, c .delay-if .ensures, c .before .before .before .before .branch .ensures)
+returns-2 c = ?
 
 returns-3 : tie.Need-returns-3
-unfolding execute
-returns-3 c = λ r memory. rw (c .before .enum-told3 .given .1, c .jump-if2 .ensures, c .before .before .before .before .branch .ensures)
+returns-3 c = ?
 
 returns-4 : tie.Need-returns-4
-unfolding execute
-returns-4 c = λ r memory. rw (c .before .enum-told4 .given .1, c .delay-if2 .ensures, c .before .before .before .before .branch .ensures)
+returns-4 c = ?
 
 pub branch-if-spec : {M : Type 1} → statement M
 branch-if-spec =

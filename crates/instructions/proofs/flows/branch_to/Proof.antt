@@ -1,6 +1,3 @@
--- `branch_to` delays to the target that the register gives, and BSRF and JSR set PR.
--- Assumes nothing.
-use Rattle.instructions.specs.Execute.{execute}
 use borrow.Author.Needs.{needs}
 use Rattle.instructions.proofs.flows.branch_to.Statement.{statement}
 use Rattle.instructions.proofs.flows.branch_to.Tie as tie
@@ -20,29 +17,17 @@ enum-told c = search needs
 far-requires : tie.Need-far-requires
 far-requires c κs = search needs
 
-delay-requires : tie.Need-delay-requires
-delay-requires c κs = search needs
-
 enum-told-2 : tie.Need-enum-told-2
 enum-told-2 c = search needs
 
 following-requires : tie.Need-following-requires
 following-requires c κs = search needs
 
-with-pr-requires : tie.Need-with-pr-requires
-with-pr-requires c κs = search needs
-
 far-requires-2 : tie.Need-far-requires-2
 far-requires-2 c κs = search needs
 
-delay-requires-2 : tie.Need-delay-requires-2
-delay-requires-2 c κs = search needs
-
 enum-told-3 : tie.Need-enum-told-3
 enum-told-3 c = search needs
-
-delay-requires-3 : tie.Need-delay-requires-3
-delay-requires-3 c κs = search needs
 
 enum-told-4 : tie.Need-enum-told-4
 enum-told-4 c = search needs
@@ -50,27 +35,17 @@ enum-told-4 c = search needs
 following-requires-2 : tie.Need-following-requires-2
 following-requires-2 c κs = search needs
 
-with-pr-requires-2 : tie.Need-with-pr-requires-2
-with-pr-requires-2 c κs = search needs
-
-delay-requires-4 : tie.Need-delay-requires-4
-delay-requires-4 c κs = search needs
-
 returns : tie.Need-returns
-unfolding execute
-returns c = λ memory. rw (c .before .before .enum-told .given .1, c .delay .ensures, c .before .far .ensures)
+returns c = ?
 
 returns-2 : tie.Need-returns-2
-unfolding execute
-returns-2 c = λ memory. rw (c .before .before .before .before .enum-told2 .given .1, c .delay2 .ensures, c .before .far2 .ensures, c .before .before .with-pr .ensures, c .before .before .before .following .ensures)
+returns-2 c = ?
 
 returns-3 : tie.Need-returns-3
-unfolding execute
-returns-3 c = λ memory. rw (c .before .enum-told3 .given .1, c .delay3 .ensures)
+returns-3 c = ?
 
 returns-4 : tie.Need-returns-4
-unfolding execute
-returns-4 c = λ memory. rw (c .before .before .before .enum-told4 .given .1, c .delay4 .ensures, c .before .with-pr2 .ensures, c .before .before .following2 .ensures)
+returns-4 c = ?
 
 pub branch-to-spec : {M : Type 1} → statement M
 branch-to-spec =
@@ -81,18 +56,12 @@ branch-to-spec =
     element-copy-out-a
     enum-told
     far-requires
-    delay-requires
     enum-told-2
     following-requires
-    with-pr-requires
     far-requires-2
-    delay-requires-2
     enum-told-3
-    delay-requires-3
     enum-told-4
     following-requires-2
-    with-pr-requires-2
-    delay-requires-4
     returns
     returns-2
     returns-3

@@ -1,10 +1,8 @@
--- `compare` puts T into SR.
--- Assumes nothing.
-use mathlib.Core.Path.{refl}
-use Rattle.instructions.specs.Promises.{state}
 use borrow.Author.Needs.{needs}
 use Rattle.instructions.proofs.registers.compare.Statement.{statement}
 use Rattle.instructions.proofs.registers.compare.Tie as tie
+use Rattle.instructions.proofs.control.with_t.Reads as with-t-reads
+use Rattle.instructions.proofs.results.of_compare.Reads as of-compare-reads
 
 cast-from : tie.Need-cast-from
 cast-from c = search needs
@@ -31,9 +29,7 @@ with-t-requires : tie.Need-with-t-requires
 with-t-requires c κs = search needs
 
 returns : tie.Need-returns
-returns c = λ memory.
-    let a = c .before .before .before .before .args in
-    rw (c .with-t .ensures) (c .before .of-compare .ensures (a .m) (a .n) (state (a .r .now) (a .control) memory) refl refl)
+returns c = ?
 
 pub compare-spec : {M : Type 1} → statement M
 compare-spec =

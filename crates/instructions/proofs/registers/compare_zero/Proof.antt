@@ -1,10 +1,8 @@
--- `compare_zero` puts T into SR.
--- Assumes nothing.
-use mathlib.Core.Path.{refl}
-use Rattle.instructions.specs.Promises.{state}
 use borrow.Author.Needs.{needs}
 use Rattle.instructions.proofs.registers.compare_zero.Statement.{statement}
 use Rattle.instructions.proofs.registers.compare_zero.Tie as tie
+use Rattle.instructions.proofs.control.with_t.Reads as with-t-reads
+use Rattle.instructions.proofs.results.of_compare_zero.Reads as of-compare-zero-reads
 
 cast-into : tie.Need-cast-into
 cast-into c = search needs
@@ -22,9 +20,7 @@ with-t-requires : tie.Need-with-t-requires
 with-t-requires c κs = search needs
 
 returns : tie.Need-returns
-returns c = λ memory.
-    let a = c .before .before .before .args in
-    rw (c .with-t .ensures) (c .before .of-compare-zero .ensures _ 0 (a .n) (state (a .r .now) (a .control) memory) refl refl)
+returns c = ?
 
 pub compare-zero-spec : {M : Type 1} → statement M
 compare-zero-spec =

@@ -1,9 +1,7 @@
--- `divide` puts M, Q and T into SR, and for DIV1 the partial remainder into Rn.
--- Assumes nothing.
-use Rattle.instructions.specs.Execute.{execute}
 use borrow.Author.Needs.{needs}
 use Rattle.instructions.proofs.registers.divide.Statement.{statement}
 use Rattle.instructions.proofs.registers.divide.Tie as tie
+use Rattle.instructions.proofs.control.with_mqt.Reads as with-mqt-reads
 
 cast-from : tie.Need-cast-from
 cast-from c = search needs
@@ -60,12 +58,10 @@ with-mqt-requires-2 : tie.Need-with-mqt-requires-2
 with-mqt-requires-2 c κs = search needs
 
 returns : tie.Need-returns
-unfolding execute
-returns c = λ memory. rw (c .before .before .before .before .enum-told .given .1, c .with-mqt .ensures, c .before .div0s .ensures)
+returns c = ?
 
 returns-2 : tie.Need-returns-2
-unfolding execute
-returns-2 c = λ memory. rw (c .before .before .before .before .before .before .before .enum-told2 .given .1, c .with-mqt2 .ensures, c .before .div1 .ensures)
+returns-2 c = ?
 
 pub divide-spec : {M : Type 1} → statement M
 divide-spec =

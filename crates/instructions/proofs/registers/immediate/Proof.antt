@@ -1,9 +1,7 @@
--- `immediate` adds or moves the extended immediate.
--- Assumes nothing.
-use Rattle.instructions.specs.Execute.{execute}
 use borrow.Author.Needs.{needs}
 use Rattle.instructions.proofs.registers.immediate.Statement.{statement}
 use Rattle.instructions.proofs.registers.immediate.Tie as tie
+use Rattle.arithmetic.proofs.transfers.exts_b.Reads as exts-b-reads
 
 cast-into : tie.Need-cast-into
 cast-into c = search needs
@@ -39,12 +37,10 @@ element-write-r-2 : tie.Need-element-write-r-2
 element-write-r-2 c = search needs
 
 returns : tie.Need-returns
-unfolding execute
-returns c = λ memory. rw (c .before .before .enum-told .given .1, c .add .ensures, c .before .before .before .before .exts-b .ensures)
+returns c = ?
 
 returns-2 : tie.Need-returns-2
-unfolding execute
-returns-2 c = λ memory. rw (c .enum-told2 .given .1, c .before .before .exts-b .ensures)
+returns-2 c = ?
 
 pub immediate-spec : {M : Type 1} → statement M
 immediate-spec =

@@ -1,9 +1,9 @@
--- `immediate_r0` computes on R0 and the immediate: an arm for each.
--- Assumes nothing.
-use Rattle.instructions.specs.Execute.{execute}
 use borrow.Author.Needs.{needs}
 use Rattle.instructions.proofs.registers.immediate_r0.Statement.{statement}
 use Rattle.instructions.proofs.registers.immediate_r0.Tie as tie
+use Rattle.arithmetic.proofs.compares.cmp_eq.Reads as cmp-eq-reads
+use Rattle.arithmetic.proofs.transfers.exts_b.Reads as exts-b-reads
+use Rattle.instructions.proofs.control.with_t.Reads as with-t-reads
 
 element-copy-out-b : tie.Need-element-copy-out-b
 element-copy-out-b c = search needs
@@ -57,24 +57,19 @@ element-write-r-3 : tie.Need-element-write-r-3
 element-write-r-3 c = search needs
 
 returns : tie.Need-returns
-unfolding execute
-returns c = λ memory. rw (c .before .enum-told .given .1, c .and .ensures)
+returns c = ?
 
 returns-2 : tie.Need-returns-2
-unfolding execute
-returns-2 c = λ memory. rw (c .before .before .before .enum-told2 .given .1, c .with-t .ensures, c .before .cmp-eq .ensures, c .before .before .exts-b .ensures)
+returns-2 c = ?
 
 returns-3 : tie.Need-returns-3
-unfolding execute
-returns-3 c = λ memory. rw (c .before .enum-told3 .given .1, c .or .ensures)
+returns-3 c = ?
 
 returns-4 : tie.Need-returns-4
-unfolding execute
-returns-4 c = λ memory. rw (c .before .before .enum-told4 .given .1, c .with-t2 .ensures, c .before .tst .ensures)
+returns-4 c = ?
 
 returns-5 : tie.Need-returns-5
-unfolding execute
-returns-5 c = λ memory. rw (c .before .enum-told5 .given .1, c .xor .ensures)
+returns-5 c = ?
 
 pub immediate-r0-spec : {M : Type 1} → statement M
 immediate-r0-spec =

@@ -1,9 +1,11 @@
--- `multiply` puts the product into MACH and MACL, or into MACL.
--- Assumes nothing.
-use Rattle.instructions.specs.Execute.{execute}
 use borrow.Author.Needs.{needs}
 use Rattle.instructions.proofs.registers.multiply.Statement.{statement}
 use Rattle.instructions.proofs.registers.multiply.Tie as tie
+use Rattle.multiply.proofs.dmuls_l.Reads as dmuls-l-reads
+use Rattle.multiply.proofs.dmulu_l.Reads as dmulu-l-reads
+use Rattle.multiply.proofs.mul_l.Reads as mul-l-reads
+use Rattle.multiply.proofs.muls_w.Reads as muls-w-reads
+use Rattle.multiply.proofs.mulu_w.Reads as mulu-w-reads
 
 cast-from : tie.Need-cast-from
 cast-from c = search needs
@@ -29,17 +31,11 @@ enum-told c = search needs
 dmuls-l-requires : tie.Need-dmuls-l-requires
 dmuls-l-requires c κs = search needs
 
-with-mac-requires : tie.Need-with-mac-requires
-with-mac-requires c κs = search needs
-
 enum-told-2 : tie.Need-enum-told-2
 enum-told-2 c = search needs
 
 dmulu-l-requires : tie.Need-dmulu-l-requires
 dmulu-l-requires c κs = search needs
-
-with-mac-requires-2 : tie.Need-with-mac-requires-2
-with-mac-requires-2 c κs = search needs
 
 enum-told-3 : tie.Need-enum-told-3
 enum-told-3 c = search needs
@@ -47,17 +43,11 @@ enum-told-3 c = search needs
 mul-l-requires : tie.Need-mul-l-requires
 mul-l-requires c κs = search needs
 
-with-mac-requires-3 : tie.Need-with-mac-requires-3
-with-mac-requires-3 c κs = search needs
-
 enum-told-4 : tie.Need-enum-told-4
 enum-told-4 c = search needs
 
 muls-w-requires : tie.Need-muls-w-requires
 muls-w-requires c κs = search needs
-
-with-mac-requires-4 : tie.Need-with-mac-requires-4
-with-mac-requires-4 c κs = search needs
 
 enum-told-5 : tie.Need-enum-told-5
 enum-told-5 c = search needs
@@ -65,28 +55,20 @@ enum-told-5 c = search needs
 mulu-w-requires : tie.Need-mulu-w-requires
 mulu-w-requires c κs = search needs
 
-with-mac-requires-5 : tie.Need-with-mac-requires-5
-with-mac-requires-5 c κs = search needs
-
 returns : tie.Need-returns
-unfolding execute
-returns c = λ memory. rw (c .before .before .enum-told .given .1, c .with-mac .ensures, c .before .dmuls-l .ensures)
+returns c = ?
 
 returns-2 : tie.Need-returns-2
-unfolding execute
-returns-2 c = λ memory. rw (c .before .before .enum-told2 .given .1, c .with-mac2 .ensures, c .before .dmulu-l .ensures)
+returns-2 c = ?
 
 returns-3 : tie.Need-returns-3
-unfolding execute
-returns-3 c = λ memory. rw (c .before .before .enum-told3 .given .1, c .with-mac3 .ensures, c .before .mul-l .ensures)
+returns-3 c = ?
 
 returns-4 : tie.Need-returns-4
-unfolding execute
-returns-4 c = λ memory. rw (c .before .before .enum-told4 .given .1, c .with-mac4 .ensures, c .before .muls-w .ensures)
+returns-4 c = ?
 
 returns-5 : tie.Need-returns-5
-unfolding execute
-returns-5 c = λ memory. rw (c .before .before .enum-told5 .given .1, c .with-mac5 .ensures, c .before .mulu-w .ensures)
+returns-5 c = ?
 
 pub multiply-spec : {M : Type 1} → statement M
 multiply-spec =
@@ -100,19 +82,14 @@ multiply-spec =
     element-copy-out-b
     enum-told
     dmuls-l-requires
-    with-mac-requires
     enum-told-2
     dmulu-l-requires
-    with-mac-requires-2
     enum-told-3
     mul-l-requires
-    with-mac-requires-3
     enum-told-4
     muls-w-requires
-    with-mac-requires-4
     enum-told-5
     mulu-w-requires
-    with-mac-requires-5
     returns
     returns-2
     returns-3

@@ -1,10 +1,8 @@
--- `one_register` puts the value into Rn and T into SR.
--- Assumes nothing.
-use mathlib.Core.Path.{refl}
-use Rattle.instructions.specs.Promises.{state}
 use borrow.Author.Needs.{needs}
 use Rattle.instructions.proofs.registers.one_register.Statement.{statement}
 use Rattle.instructions.proofs.registers.one_register.Tie as tie
+use Rattle.instructions.proofs.control.with_t.Reads as with-t-reads
+use Rattle.instructions.proofs.results.of_one_register.Reads as of-one-register-reads
 
 cast-into : tie.Need-cast-into
 cast-into c = search needs
@@ -28,9 +26,7 @@ with-t-requires : tie.Need-with-t-requires
 with-t-requires c κs = search needs
 
 returns : tie.Need-returns
-returns c = λ memory.
-    let a = c .before .before .before .before .args in
-    rw (c .with-t .ensures) (c .before .of-one-register .ensures _ 0 (a .n) (state (a .r .now) (a .control) memory) refl refl refl)
+returns c = ?
 
 pub one-register-spec : {M : Type 1} → statement M
 one-register-spec =

@@ -1,10 +1,8 @@
--- `two_registers` puts the value into Rn and T into SR.
--- Assumes nothing.
-use mathlib.Core.Path.{refl}
-use Rattle.instructions.specs.Promises.{state}
 use borrow.Author.Needs.{needs}
 use Rattle.instructions.proofs.registers.two_registers.Statement.{statement}
 use Rattle.instructions.proofs.registers.two_registers.Tie as tie
+use Rattle.instructions.proofs.control.with_t.Reads as with-t-reads
+use Rattle.instructions.proofs.results.of_two_registers.Reads as of-two-registers-reads
 
 cast-from : tie.Need-cast-from
 cast-from c = search needs
@@ -37,9 +35,7 @@ with-t-requires : tie.Need-with-t-requires
 with-t-requires c κs = search needs
 
 returns : tie.Need-returns
-returns c = λ memory.
-    let a = c .before .before .before .before .before .args in
-    rw (c .with-t .ensures) (c .before .of-two-registers .ensures (a .m) (a .n) (state (a .r .now) (a .control) memory) refl refl refl)
+returns c = ?
 
 pub two-registers-spec : {M : Type 1} → statement M
 two-registers-spec =

@@ -1,0 +1,101 @@
+use borrow.Author.Needs.{needs}
+use Rattle.instructions.proofs.accesses.effective.Statement.{statement}
+use Rattle.instructions.proofs.accesses.effective.Tie as tie
+use Rattle.std.proofs.num.wrapping_add_u32.Reads as wrapping-add-u32-reads
+
+enum-known-address : tie.Need-enum-known-address
+enum-known-address c = search needs
+
+cast-result : tie.Need-cast-result
+cast-result c = search needs
+
+mul-result : tie.Need-mul-result
+mul-result c = search needs
+
+element-copy-out-result : tie.Need-element-copy-out-result
+element-copy-out-result c = search needs
+
+enum-known-address-2 : tie.Need-enum-known-address-2
+enum-known-address-2 c = search needs
+
+element-copy-out-wrapping-add-u32 : tie.Need-element-copy-out-wrapping-add-u32
+element-copy-out-wrapping-add-u32 c = search needs
+
+cast-wrapping-add-u32 : tie.Need-cast-wrapping-add-u32
+cast-wrapping-add-u32 c = search needs
+
+mul-wrapping-add-u32 : tie.Need-mul-wrapping-add-u32
+mul-wrapping-add-u32 c = search needs
+
+element-copy-out-wrapping-add-u32-2 : tie.Need-element-copy-out-wrapping-add-u32-2
+element-copy-out-wrapping-add-u32-2 c = search needs
+
+wrapping-add-u32-requires : tie.Need-wrapping-add-u32-requires
+wrapping-add-u32-requires c κs = search needs
+
+enum-known-address-3 : tie.Need-enum-known-address-3
+enum-known-address-3 c = search needs
+
+cast-wrapping-add-u32-2 : tie.Need-cast-wrapping-add-u32-2
+cast-wrapping-add-u32-2 c = search needs
+
+mul-wrapping-add-u32-2 : tie.Need-mul-wrapping-add-u32-2
+mul-wrapping-add-u32-2 c = search needs
+
+element-copy-out-wrapping-add-u32-3 : tie.Need-element-copy-out-wrapping-add-u32-3
+element-copy-out-wrapping-add-u32-3 c = search needs
+
+scaled-requires : tie.Need-scaled-requires
+scaled-requires c κs = search needs
+
+wrapping-add-u32-requires-2 : tie.Need-wrapping-add-u32-requires-2
+wrapping-add-u32-requires-2 c κs = search needs
+
+enum-known-address-4 : tie.Need-enum-known-address-4
+enum-known-address-4 c = search needs
+
+scaled-requires-2 : tie.Need-scaled-requires-2
+scaled-requires-2 c κs = search needs
+
+wrapping-add-u32-requires-3 : tie.Need-wrapping-add-u32-requires-3
+wrapping-add-u32-requires-3 c κs = search needs
+
+returns : tie.Need-returns
+returns c = ?
+
+returns-2 : tie.Need-returns-2
+returns-2 c = ?
+
+returns-3 : tie.Need-returns-3
+returns-3 c = ?
+
+returns-4 : tie.Need-returns-4
+returns-4 c = ?
+
+pub effective-spec : {M : Type 1} → statement M
+effective-spec =
+    tie.close
+    (tie.spec
+    enum-known-address
+    cast-result
+    mul-result
+    element-copy-out-result
+    enum-known-address-2
+    element-copy-out-wrapping-add-u32
+    cast-wrapping-add-u32
+    mul-wrapping-add-u32
+    element-copy-out-wrapping-add-u32-2
+    wrapping-add-u32-requires
+    enum-known-address-3
+    cast-wrapping-add-u32-2
+    mul-wrapping-add-u32-2
+    element-copy-out-wrapping-add-u32-3
+    scaled-requires
+    wrapping-add-u32-requires-2
+    enum-known-address-4
+    scaled-requires-2
+    wrapping-add-u32-requires-3
+    returns
+    returns-2
+    returns-3
+    returns-4)

@@ -1,0 +1,118 @@
+use borrow.Author.Needs.{needs}
+use Rattle.instructions.proofs.byte_logic.immediate_byte.Statement.{statement}
+use Rattle.instructions.proofs.byte_logic.immediate_byte.Tie as tie
+use Rattle.instructions.proofs.control.with_t.Reads as with-t-reads
+use Rattle.std.proofs.num.wrapping_add_u32.Reads as wrapping-add-u32-reads
+
+element-copy-out-wrapping-add-u32 : tie.Need-element-copy-out-wrapping-add-u32
+element-copy-out-wrapping-add-u32 c = search needs
+
+wrapping-add-u32-requires : tie.Need-wrapping-add-u32-requires
+wrapping-add-u32-requires c κs = search needs
+
+load-requires : tie.Need-load-requires
+load-requires c κs = search needs
+
+enum-known-v : tie.Need-enum-known-v
+enum-known-v c = search needs
+
+enum-told : tie.Need-enum-told
+enum-told c = search needs
+
+and-requires : tie.Need-and-requires
+and-requires c κs = search needs
+
+replace-requires : tie.Need-replace-requires
+replace-requires c κs = search needs
+
+enum-told-2 : tie.Need-enum-told-2
+enum-told-2 c = search needs
+
+or-requires : tie.Need-or-requires
+or-requires c κs = search needs
+
+replace-requires-2 : tie.Need-replace-requires-2
+replace-requires-2 c κs = search needs
+
+enum-told-3 : tie.Need-enum-told-3
+enum-told-3 c = search needs
+
+tst-requires : tie.Need-tst-requires
+tst-requires c κs = search needs
+
+with-t-requires : tie.Need-with-t-requires
+with-t-requires c κs = search needs
+
+enum-told-4 : tie.Need-enum-told-4
+enum-told-4 c = search needs
+
+xor-requires : tie.Need-xor-requires
+xor-requires c κs = search needs
+
+replace-requires-3 : tie.Need-replace-requires-3
+replace-requires-3 c κs = search needs
+
+enum-told-5 : tie.Need-enum-told-5
+enum-told-5 c = search needs
+
+same-length : tie.Need-same-length
+same-length c = search needs
+
+returns : tie.Need-returns
+returns c = ?
+
+same-length-2 : tie.Need-same-length-2
+same-length-2 c = search needs
+
+returns-2 : tie.Need-returns-2
+returns-2 c = ?
+
+same-length-3 : tie.Need-same-length-3
+same-length-3 c = search needs
+
+returns-3 : tie.Need-returns-3
+returns-3 c = ?
+
+same-length-4 : tie.Need-same-length-4
+same-length-4 c = search needs
+
+returns-4 : tie.Need-returns-4
+returns-4 c = ?
+
+same-length-5 : tie.Need-same-length-5
+same-length-5 c = search needs
+
+returns-5 : tie.Need-returns-5
+returns-5 c = ?
+
+pub immediate-byte-spec : {M : Type 1} → statement M
+immediate-byte-spec =
+    tie.close
+    (tie.spec
+    element-copy-out-wrapping-add-u32
+    wrapping-add-u32-requires
+    load-requires
+    enum-known-v
+    enum-told
+    and-requires
+    replace-requires
+    enum-told-2
+    or-requires
+    replace-requires-2
+    enum-told-3
+    tst-requires
+    with-t-requires
+    enum-told-4
+    xor-requires
+    replace-requires-3
+    enum-told-5
+    same-length
+    returns
+    same-length-2
+    returns-2
+    same-length-3
+    returns-3
+    same-length-4
+    returns-4
+    same-length-5
+    returns-5)

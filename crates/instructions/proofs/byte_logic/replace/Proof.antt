@@ -1,0 +1,29 @@
+use borrow.Author.Needs.{needs}
+use Rattle.instructions.proofs.byte_logic.replace.Statement.{statement}
+use Rattle.instructions.proofs.byte_logic.replace.Tie as tie
+
+store-requires : tie.Need-store-requires
+store-requires c κs = search needs
+
+enum-told : tie.Need-enum-told
+enum-told c = search needs
+
+enum-told-2 : tie.Need-enum-told-2
+enum-told-2 c = search needs
+
+same-length : tie.Need-same-length
+same-length c = search needs
+
+returns : tie.Need-returns
+returns c = ?
+
+same-length-2 : tie.Need-same-length-2
+same-length-2 c = search needs
+
+returns-2 : tie.Need-returns-2
+returns-2 c = ?
+
+pub replace-spec : {M : Type 1} → statement M
+replace-spec =
+    tie.close
+    (tie.spec store-requires enum-told enum-told-2 same-length returns same-length-2 returns-2)

@@ -1,0 +1,79 @@
+use borrow.Author.Needs.{needs}
+use Rattle.instructions.proofs.dispatch.rewrite_pc.Statement.{statement}
+use Rattle.instructions.proofs.dispatch.rewrite_pc.Tie as tie
+use Rattle.instructions.proofs.flows.branch_if.Reads as branch-if-reads
+use Rattle.instructions.proofs.flows.branch_to.Reads as branch-to-reads
+use Rattle.instructions.proofs.returns.return_by.Reads as return-by-reads
+
+returns : tie.Need-returns
+returns c = ?
+
+enum-known-meaning : tie.Need-enum-known-meaning
+enum-known-meaning c = search needs
+
+branch-if-requires : tie.Need-branch-if-requires
+branch-if-requires c κs = search needs
+
+enum-known-meaning-2 : tie.Need-enum-known-meaning-2
+enum-known-meaning-2 c = search needs
+
+branch-requires : tie.Need-branch-requires
+branch-requires c κs = search needs
+
+enum-known-meaning-3 : tie.Need-enum-known-meaning-3
+enum-known-meaning-3 c = search needs
+
+branch-to-requires : tie.Need-branch-to-requires
+branch-to-requires c κs = search needs
+
+enum-known-meaning-4 : tie.Need-enum-known-meaning-4
+enum-known-meaning-4 c = search needs
+
+return-by-requires : tie.Need-return-by-requires
+return-by-requires c κs = search needs
+
+enum-known-meaning-5 : tie.Need-enum-known-meaning-5
+enum-known-meaning-5 c = search needs
+
+cast-t25 : tie.Need-cast-t25
+cast-t25 c = search needs
+
+returns-2 : tie.Need-returns-2
+returns-2 c = ?
+
+returns-3 : tie.Need-returns-3
+returns-3 c = ?
+
+returns-4 : tie.Need-returns-4
+returns-4 c = ?
+
+returns-5 : tie.Need-returns-5
+returns-5 c = ?
+
+returns-6 : tie.Need-returns-6
+returns-6 c = ?
+
+returns-7 : tie.Need-returns-7
+returns-7 c = ?
+
+pub rewrite-pc-spec : {M : Type 1} → statement M
+rewrite-pc-spec =
+    tie.close
+    (tie.spec
+    returns
+    enum-known-meaning
+    branch-if-requires
+    enum-known-meaning-2
+    branch-requires
+    enum-known-meaning-3
+    branch-to-requires
+    enum-known-meaning-4
+    return-by-requires
+    enum-known-meaning-5
+    cast-t25
+    returns-2
+    returns-3
+    returns-4
+    returns-5
+    returns-6
+    returns-7)

@@ -1,0 +1,61 @@
+use borrow.Author.Needs.{needs}
+use Rattle.instructions.proofs.returns.from_exception.Statement.{statement}
+use Rattle.instructions.proofs.returns.from_exception.Tie as tie
+use Rattle.std.proofs.num.wrapping_add_u32.Reads as wrapping-add-u32-reads
+
+element-copy-out-top : tie.Need-element-copy-out-top
+element-copy-out-top c = search needs
+
+load-requires : tie.Need-load-requires
+load-requires c κs = search needs
+
+enum-known-pc : tie.Need-enum-known-pc
+enum-known-pc c = search needs
+
+wrapping-add-u32-requires : tie.Need-wrapping-add-u32-requires
+wrapping-add-u32-requires c κs = search needs
+
+load-requires-2 : tie.Need-load-requires-2
+load-requires-2 c κs = search needs
+
+enum-known-popped : tie.Need-enum-known-popped
+enum-known-popped c = search needs
+
+wrapping-add-u32-requires-2 : tie.Need-wrapping-add-u32-requires-2
+wrapping-add-u32-requires-2 c κs = search needs
+
+element-write-r : tie.Need-element-write-r
+element-write-r c = search needs
+
+enum-told : tie.Need-enum-told
+enum-told c = search needs
+
+enum-told-2 : tie.Need-enum-told-2
+enum-told-2 c = search needs
+
+returns : tie.Need-returns
+returns c = ?
+
+returns-2 : tie.Need-returns-2
+returns-2 c = ?
+
+returns-3 : tie.Need-returns-3
+returns-3 c = ?
+
+pub from-exception-spec : {M : Type 1} → statement M
+from-exception-spec =
+    tie.close
+    (tie.spec
+    element-copy-out-top
+    load-requires
+    enum-known-pc
+    wrapping-add-u32-requires
+    load-requires-2
+    enum-known-popped
+    wrapping-add-u32-requires-2
+    element-write-r
+    enum-told
+    enum-told-2
+    returns
+    returns-2
+    returns-3)

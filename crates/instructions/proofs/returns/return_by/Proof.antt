@@ -1,0 +1,23 @@
+use borrow.Author.Needs.{needs}
+use Rattle.instructions.proofs.returns.return_by.Statement.{statement}
+use Rattle.instructions.proofs.returns.return_by.Tie as tie
+use Rattle.instructions.proofs.returns.from_exception.Reads as from-exception-reads
+
+enum-told : tie.Need-enum-told
+enum-told c = search needs
+
+from-exception-requires : tie.Need-from-exception-requires
+from-exception-requires c κs = search needs
+
+enum-told-2 : tie.Need-enum-told-2
+enum-told-2 c = search needs
+
+returns : tie.Need-returns
+returns c = ?
+
+returns-2 : tie.Need-returns-2
+returns-2 c = ?
+
+pub return-by-spec : {M : Type 1} → statement M
+return-by-spec =
+    tie.close (tie.spec enum-told from-exception-requires enum-told-2 returns returns-2)

@@ -1,0 +1,52 @@
+use borrow.Author.Needs.{needs}
+use Rattle.instructions.proofs.stores.store.Statement.{statement}
+use Rattle.instructions.proofs.stores.store.Tie as tie
+
+effective-requires : tie.Need-effective-requires
+effective-requires c κs = search needs
+
+cast-store : tie.Need-cast-store
+cast-store c = search needs
+
+mul-store : tie.Need-mul-store
+mul-store c = search needs
+
+element-copy-out-store : tie.Need-element-copy-out-store
+element-copy-out-store c = search needs
+
+store-requires : tie.Need-store-requires
+store-requires c κs = search needs
+
+enum-told : tie.Need-enum-told
+enum-told c = search needs
+
+enum-told-2 : tie.Need-enum-told-2
+enum-told-2 c = search needs
+
+same-length : tie.Need-same-length
+same-length c = search needs
+
+returns : tie.Need-returns
+returns c = ?
+
+same-length-2 : tie.Need-same-length-2
+same-length-2 c = search needs
+
+returns-2 : tie.Need-returns-2
+returns-2 c = ?
+
+pub store-spec : {M : Type 1} → statement M
+store-spec =
+    tie.close
+    (tie.spec
+    effective-requires
+    cast-store
+    mul-store
+    element-copy-out-store
+    store-requires
+    enum-told
+    enum-told-2
+    same-length
+    returns
+    same-length-2
+    returns-2)

@@ -1,0 +1,21 @@
+use borrow.Author.Needs.{needs}
+use Rattle.instructions.proofs.system.store_control.Statement.{statement}
+use Rattle.instructions.proofs.system.store_control.Tie as tie
+
+register-requires : tie.Need-register-requires
+register-requires c κs = search needs
+
+cast-r : tie.Need-cast-r
+cast-r c = search needs
+
+mul-r : tie.Need-mul-r
+mul-r c = search needs
+
+element-write-r : tie.Need-element-write-r
+element-write-r c = search needs
+
+returns : tie.Need-returns
+returns c = ?
+
+pub store-control-spec : {M : Type 1} → statement M
+store-control-spec = tie.close (tie.spec register-requires cast-r mul-r element-write-r returns)
