@@ -1,5 +1,6 @@
 pub mod Arms
 pub mod Conjunction
 pub mod Digits
+pub mod Rewriting
 pub mod Rows
 pub mod Table

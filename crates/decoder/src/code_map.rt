@@ -23,6 +23,7 @@ ghost use mathlib.Core.Path.{_≡_};
 ghost use Prim.Native.Nat.{_/_, _%_};
 ghost use Rattle.decoder.specs.Code.{meaning};
 
+// MAC.W is told here: with three operands it has another layout than the rest of its group, and the compiler keeps them apart so.
 pub fn decode(word: u16) -> Meaning
     ensures { λ r. ⌜ r ≡ meaning word ⌝ }
 {
@@ -36,7 +37,12 @@ pub fn decode(word: u16) -> Meaning
         1 => Meaning::Store(Size::Long, m, Address::Displacement(low4, n)),
         2 => group_2(word),
         3 => group_3(word),
-        4 => group_4(word),
+        4 => {
+            if word % 16 == 15 {
+                return Meaning::MultiplyAdd(MultiplyAdd::MacW, m, n);
+            }
+            group_4(word)
+        }
         5 => Meaning::Load(Size::Long, Address::Displacement(low4, m), n),
         6 => group_6(word),
         7 => Meaning::Immediate(Immediate::AddImm, low8, n),
@@ -225,15 +231,10 @@ fn group_3(word: u16) -> Meaning
 }
 
 fn group_4(word: u16) -> Meaning
-    requires { ⌜ word / 4096 ≡ 4 ⌝ }
+    requires { ⌜ (word / 4096 ≡ 4) × (word % 16 ≡ 15 → ⊥) ⌝ }
     ensures { λ r. ⌜ r ≡ meaning word ⌝ }
 {
-    let n = (word / 256 % 16) as u8;
-    let m = (word / 16 % 16) as u8;
     let third = word / 16 % 16;
-    if word % 16 == 15 {
-        return Meaning::MultiplyAdd(MultiplyAdd::MacW, m, n);
-    }
     match third {
         0 => group_4_0(word),
         1 => group_4_1(word),

@@ -6,12 +6,19 @@ use Rattle.decoder.specs.declared.meaning.Address.{Address}
 use Rattle.decoder.specs.declared.meaning.Address.the-variants.{Indirect, Indexed, Displacement, GbrDisplacement}
 use Rattle.decoder.specs.declared.meaning.ControlRegister.{ControlRegister}
 use Rattle.decoder.specs.declared.meaning.ControlRegister.the-variants.{Gbr, Sr, Vbr, Mach, Macl, Pr}
-use Rattle.decoder.specs.declared.meaning.Meaning.the-variants.{Load, LoadIncrement, Store, StoreDecrement, LoadControl, LoadControlLong, StoreControl, StoreControlLong}
+use Rattle.decoder.specs.declared.meaning.Meaning.the-variants.{ImmediateByte as MeansImmediateByte, MultiplyAdd as MeansMultiplyAdd, Load, LoadIncrement, Store, StoreDecrement, LoadControl, LoadControlLong, StoreControl, StoreControlLong}
+use Rattle.decoder.specs.declared.meaning.ImmediateByte.{ImmediateByte}
+use Rattle.decoder.specs.declared.meaning.ImmediateByte.the-variants.{AndB, OrB, TstB, XorB}
+use Rattle.decoder.specs.declared.meaning.MultiplyAdd.{MultiplyAdd}
+use Rattle.decoder.specs.declared.meaning.MultiplyAdd.the-variants.{MacL, MacW}
 use Rattle.decoder.specs.declared.meaning.Size.{Size}
 use Rattle.decoder.specs.declared.meaning.Size.the-variants.{Byte, Word, Long}
+use Rattle.memory.specs.Access.{loaded}
+use Rattle.memory.specs.declared.Loaded.the-variants as loads
+use Rattle.instructions.specs.declared.control.Flow.the-variants.{Fault}
 use Rattle.instructions.specs.Execute.{execute}
-use Rattle.instructions.specs.Shapes.{next, gives, loading, storing, bytes, extended, effective, steppedOn, steppedBack, withControlRegister, controlRegister}
-use Rattle.instructions.specs.State.{State, reg, withReg, changed}
+use Rattle.instructions.specs.Shapes.{leads, next, gives, gbrIndexed, loading, storing, bytes, extended, effective, steppedOn, steppedBack, withControlRegister, controlRegister, accumulating, accumulated, operandBytes}
+use Rattle.instructions.specs.State.{State, reg, withReg, changed, sBit}
 
 pub load-control :
     (x : ControlRegister) (m : ℕ) (s : State) → execute (LoadControl x m) s ≡ next (changed (withControlRegister x (reg m s)) s)
@@ -107,3 +114,21 @@ unfolding execute
 store-decrement Byte m n s = refl
 store-decrement Word m n s = refl
 store-decrement Long m n s = refl
+
+pub multiply-add :
+    (x : MultiplyAdd) (m n : ℕ) (s : State) →
+    execute (MeansMultiplyAdd x m n) s ≡
+    accumulating (operandBytes x) (λ a b. accumulated x (s .control .mach) (s .control .macl) (sBit s) a b) m n s
+unfolding execute
+multiply-add MacL m n s = refl
+multiply-add MacW m n s = refl
+
+-- AND.B, OR.B, TST.B and XOR.B where the byte at @(R0,GBR) cannot be read.
+pub byte-failed :
+    (x : ImmediateByte) (i : ℕ) (s : State) → loaded 1 (s .memory) (gbrIndexed s) ≡ loads.Fault →
+    execute (MeansImmediateByte x i) s ≡ leads Fault s
+unfolding execute
+byte-failed AndB i s failed = rw failed
+byte-failed OrB i s failed = rw failed
+byte-failed TstB i s failed = rw failed
+byte-failed XorB i s failed = rw failed

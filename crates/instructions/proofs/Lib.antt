@@ -1,2 +1,4 @@
+pub mod Answers
 pub mod Families
 pub mod Kept
+pub mod Slots

@@ -2,11 +2,11 @@
 use crate::accesses;
 use crate::control::Control;
 use crate::control::Flow;
+use arithmetic::sums;
 use decoder::Address;
 use decoder::Meaning;
 use decoder::Size;
 use memory::Stored;
-use std::num::wrapping_sub_u32;
 ghost use Rattle.instructions.specs.Promises.{Performs};
 ghost use Rattle.instructions.specs.State.{withGbr};
 
@@ -31,7 +31,7 @@ pub fn store_decrement(size: Size, m: u8, n: u8, r: &mut [u32; 16], memory: &mut
     ensures { λ f. ⌜ ((c : Control) → Performs (Meaning.StoreDecrement size m n) c (now (r .entry)) (now (memory .entry)) f c (now (r .exit)) (now (memory .exit))) ⌝ }
 {
     let into = (n % 16) as usize;
-    let at = wrapping_sub_u32(r[into], accesses::bytes(size));
+    let at = sums::sub(accesses::bytes(size), r[into]);
     match accesses::store(size, memory, at, r[(m % 16) as usize]) {
         Stored::Done => {
             r[into] = at;

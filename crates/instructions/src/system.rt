@@ -1,13 +1,13 @@
 // LDC, LDS, STC and STS (document 000, sections 6.27, 6.28, 6.60 and 6.61): between a control register and a general one, or memory.
 use crate::control::Control;
 use crate::control::Flow;
+use arithmetic::sums;
 use decoder::ControlRegister;
 use decoder::Meaning;
 use memory::Loaded;
 use memory::Long;
 use memory::Stored;
 use std::num::wrapping_add_u32;
-use std::num::wrapping_sub_u32;
 ghost use mathlib.Core.Path.{_≡_};
 ghost use mathlib.Core.List.{List};
 ghost use Prim.Native.Nat.{ℕ};
@@ -96,7 +96,7 @@ pub fn store_control_long(
     ensures { λ f. ⌜ Performs (Meaning.StoreControlLong register n) control (now (r .entry)) (now (memory .entry)) f control (now (r .exit)) (now (memory .exit)) ⌝ }
 {
     let into = (n % 16) as usize;
-    let at = wrapping_sub_u32(r[into], 4);
+    let at = sums::sub(4, r[into]);
     match Long::store(memory, at, control.register(register)) {
         Stored::Done => {
             r[into] = at;

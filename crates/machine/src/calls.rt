@@ -1,9 +1,9 @@
 // The public operations (document 01, "Refusals of a call", "Reset" and "Run").
-use crate::state::Answer;
-use crate::state::Machine;
-use crate::state::Mode;
-use crate::state::Refusal;
-use crate::state::Stop;
+use crate::Answer;
+use crate::Machine;
+use crate::Mode;
+use crate::Refusal;
+use crate::Stop;
 use crate::steps;
 use instructions::Control;
 use memory::Loaded;

@@ -1,6 +1,6 @@
 // The entry of an exception (document 01, "Exceptions").
-use crate::state::Mode;
-use crate::state::Stop;
+use crate::Mode;
+use crate::Stop;
 use memory::Loaded;
 use memory::Long;
 use std::num::wrapping_add_u32;

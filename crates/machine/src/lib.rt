@@ -1,13 +1,50 @@
-// The machine: reset, step and run over a lent memory.
+// The machine: its registers and its mode (document 01, "State"), what a call answers, and the calls.
 mod calls;
 mod exceptions;
-mod state;
 mod steps;
 
 pub use calls::reset;
 pub use calls::run;
-pub use state::Answer;
-pub use state::Machine;
-pub use state::Mode;
-pub use state::Refusal;
-pub use state::Stop;
+pub use calls::step;
+use instructions::Control;
+
+// Why a machine stopped (document 01, "Exceptions").
+pub enum Stop {
+    // Reason 1: R15 is not a multiple of 4, or a push would fall outside.
+    Push,
+    // Reason 2: the vector's address is misaligned or outside.
+    Vector,
+    // Reason 3: a delayed branch is taken while another's target still waits.
+    Branch,
+}
+
+// Exactly one of: running; in a slot, with the target; asleep; stopped, with a reason.
+pub enum Mode {
+    Running,
+    Slot(u32),
+    Asleep,
+    Stopped(Stop),
+}
+
+pub struct Machine {
+    pub r: [u32; 16],
+    pub control: Control,
+    pub mode: Mode,
+}
+
+// Why a call is refused, if it is (document 01, "Refusals of a call").
+pub enum Refusal {
+    Accepted,
+    // 1: the memory's length is not a multiple of 4.
+    Ragged,
+    // 2: the length is below 1,024 or above 16,777,216.
+    Size,
+    // 3: SR has a bit outside its mask.
+    Status,
+}
+
+pub struct Answer {
+    pub refusal: Refusal,
+    pub machine: Machine,
+    pub steps: u32,
+}

@@ -1,6 +1,6 @@
 // One step (document 01, "One step").
+use crate::Mode;
 use crate::exceptions;
-use crate::state::Mode;
 use instructions::Flow;
 use memory::Loaded;
 use memory::Word;

@@ -35,6 +35,10 @@ group-2-requires c κs = search needs
 group-3-requires : tie.Need-group-3-requires
 group-3-requires c κs = search needs
 
+returns : tie.Need-returns
+unfolding among table
+returns c = arm _ (c .before .match .keys5) refl refl (c .if1 .taken) refl
+
 group-4-requires : tie.Need-group-4-requires
 group-4-requires c κs = search needs
 
@@ -47,15 +51,12 @@ group-8-requires c κs = search needs
 group-c-requires : tie.Need-group-c-requires
 group-c-requires c κs = search needs
 
-returns : tie.Need-returns
-returns c = search needs
-
 returns-2 : tie.Need-returns-2
-unfolding among table
-returns-2 c = arm _ (c .match .keys2) refl refl refl refl
+returns-2 c = search needs
 
 returns-3 : tie.Need-returns-3
-returns-3 c = search needs
+unfolding among table
+returns-3 c = arm _ (c .match .keys2) refl refl refl refl
 
 returns-4 : tie.Need-returns-4
 returns-4 c = search needs
@@ -64,45 +65,48 @@ returns-5 : tie.Need-returns-5
 returns-5 c = search needs
 
 returns-6 : tie.Need-returns-6
-unfolding among table
-returns-6 c = arm _ (c .match .keys6) refl refl refl refl
+returns-6 c = search needs
 
 returns-7 : tie.Need-returns-7
-returns-7 c = search needs
+unfolding among table
+returns-7 c = arm _ (c .match .keys6) refl refl refl refl
 
 returns-8 : tie.Need-returns-8
-unfolding among table
-returns-8 c = arm _ (c .match .keys8) refl refl refl (rw last-two)
+returns-8 c = search needs
 
 returns-9 : tie.Need-returns-9
-returns-9 c = search needs
+unfolding among table
+returns-9 c = arm _ (c .match .keys8) refl refl refl (rw last-two)
 
 returns-10 : tie.Need-returns-10
-unfolding among table
-returns-10 c = arm _ (c .match .keys10) refl refl refl (rw last-two)
+returns-10 c = search needs
 
 returns-11 : tie.Need-returns-11
 unfolding among table
-returns-11 c = arm _ (c .match .keys11) refl refl refl (rw last-three)
+returns-11 c = arm _ (c .match .keys10) refl refl refl (rw last-two)
 
 returns-12 : tie.Need-returns-12
 unfolding among table
-returns-12 c = arm _ (c .match .keys12) refl refl refl (rw last-three)
+returns-12 c = arm _ (c .match .keys11) refl refl refl (rw last-three)
 
 returns-13 : tie.Need-returns-13
-returns-13 c = search needs
+unfolding among table
+returns-13 c = arm _ (c .match .keys12) refl refl refl (rw last-three)
 
 returns-14 : tie.Need-returns-14
-unfolding among table
-returns-14 c = arm _ (c .match .keys14) refl refl refl (rw last-two)
+returns-14 c = search needs
 
 returns-15 : tie.Need-returns-15
 unfolding among table
-returns-15 c = arm _ (c .match .keys15) refl refl refl (rw last-two)
+returns-15 c = arm _ (c .match .keys14) refl refl refl (rw last-two)
 
 returns-16 : tie.Need-returns-16
+unfolding among table
+returns-16 c = arm _ (c .match .keys15) refl refl refl (rw last-two)
+
+returns-17 : tie.Need-returns-17
 unfolding table
-returns-16 c = undefined (none-of keys) anything anything anything _ (no-key keys _ (c .match .rest)) tt tt tt tt
+returns-17 c = undefined (none-of keys) anything anything anything _ (no-key keys _ (c .match .rest)) tt tt tt tt
 
 pub decode-spec : {M : Type 1} → statement M
 decode-spec =
@@ -115,11 +119,11 @@ decode-spec =
     group-0-requires
     group-2-requires
     group-3-requires
+    returns
     group-4-requires
     group-6-requires
     group-8-requires
     group-c-requires
-    returns
     returns-2
     returns-3
     returns-4
@@ -134,4 +138,5 @@ decode-spec =
     returns-13
     returns-14
     returns-15
-    returns-16)
+    returns-16
+    returns-17)

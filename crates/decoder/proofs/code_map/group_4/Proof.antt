@@ -1,27 +1,15 @@
--- `group_4` gives the table's meaning: each arm is the row of its nibbles or the group's own function, and what the default arm knows rules out every row.
+-- `group_4` gives the table's meaning: each arm is the group's own function, and what the default arm knows rules out every row.
 -- Assumes nothing.
-use mathlib.Core.Path.{refl}
 use mathlib.Core.List.{List, [], _∷_}
 use Prim.Native.Nat.{ℕ}
 use borrow.Author.Needs.{needs}
-use Rattle.decoder.specs.Code.{among}
 use Rattle.decoder.specs.Table.{table}
-use Rattle.decoder.proofs.Arms.{arm, is, none-of, anything, known, no-key, undefined}
+use Rattle.decoder.proofs.Arms.{is, none-of, anything, known, no-key, undefined}
 use Rattle.decoder.proofs.code_map.group_4.Statement.{statement}
 use Rattle.decoder.proofs.code_map.group_4.Tie as tie
 
 abbrev keys : List ℕ
 keys = 2 ∷ 1 ∷ 0 ∷ []
-
-cast-n : tie.Need-cast-n
-cast-n c = search needs
-
-cast-m : tie.Need-cast-m
-cast-m c = search needs
-
-returns : tie.Need-returns
-unfolding among table
-returns c = arm _ (c .before .pre) refl refl (c .if1 .taken) refl
 
 group-4-0-requires : tie.Need-group-4-0-requires
 group-4-0-requires c κs = search needs
@@ -32,6 +20,9 @@ group-4-1-requires c κs = search needs
 group-4-2-requires : tie.Need-group-4-2-requires
 group-4-2-requires c κs = search needs
 
+returns : tie.Need-returns
+returns c = search needs
+
 returns-2 : tie.Need-returns-2
 returns-2 c = search needs
 
@@ -39,23 +30,17 @@ returns-3 : tie.Need-returns-3
 returns-3 c = search needs
 
 returns-4 : tie.Need-returns-4
-returns-4 c = search needs
-
-returns-5 : tie.Need-returns-5
 unfolding table
-returns-5 c = undefined (is 4) anything (none-of keys) (none-of (15 ∷ [])) _ (known (c .before .before .pre)) tt (no-key keys _ (c .match .rest)) (no-key (15 ∷ []) _ (tt, c .before .if1 .left)) tt
+returns-4 c = undefined (is 4) anything (none-of keys) (none-of (15 ∷ [])) _ (known (c .before .pre .0)) tt (no-key keys _ (c .match .rest)) (no-key (15 ∷ []) _ (tt, c .before .pre .1)) tt
 
 pub group-4-spec : {M : Type 1} → statement M
 group-4-spec =
     tie.close
     (tie.spec
-    cast-n
-    cast-m
-    returns
     group-4-0-requires
     group-4-1-requires
     group-4-2-requires
+    returns
     returns-2
     returns-3
-    returns-4
-    returns-5)
+    returns-4)

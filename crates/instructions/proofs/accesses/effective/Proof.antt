@@ -1,3 +1,5 @@
+-- `effective` adds up the address, arm by arm.
+-- Assumes nothing.
 use borrow.Author.Needs.{needs}
 use Rattle.instructions.proofs.accesses.effective.Statement.{statement}
 use Rattle.instructions.proofs.accesses.effective.Tie as tie
@@ -61,16 +63,16 @@ wrapping-add-u32-requires-3 : tie.Need-wrapping-add-u32-requires-3
 wrapping-add-u32-requires-3 c κs = search needs
 
 returns : tie.Need-returns
-returns c = ?
+returns c = λ k memory. rw (c .before .before .address .given .1)
 
 returns-2 : tie.Need-returns-2
-returns-2 c = ?
+returns-2 c = λ k memory. rw (c .before .before .before .before .address2 .given .1, c .wrapping-add-u32 .ensures)
 
 returns-3 : tie.Need-returns-3
-returns-3 c = ?
+returns-3 c = λ k memory. rw (c .before .before .before .before .address3 .given .1, c .wrapping-add-u322 .ensures, c .before .scaled .ensures)
 
 returns-4 : tie.Need-returns-4
-returns-4 c = ?
+returns-4 c = λ k memory. rw (c .before .before .before .address4 .given .1, c .wrapping-add-u323 .ensures, c .before .scaled2 .ensures)
 
 pub effective-spec : {M : Type 1} → statement M
 effective-spec =

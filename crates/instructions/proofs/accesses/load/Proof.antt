@@ -1,3 +1,6 @@
+-- `load` loads by the size and extends what it loaded.
+-- Assumes nothing.
+use Rattle.instructions.proofs.Answers.{load-long, met}
 use borrow.Author.Needs.{needs}
 use Rattle.instructions.proofs.accesses.load.Statement.{statement}
 use Rattle.instructions.proofs.accesses.load.Tie as tie
@@ -44,19 +47,19 @@ load-requires-3 : tie.Need-load-requires-3
 load-requires-3 c κs = search needs
 
 returns : tie.Need-returns
-returns c = ?
+returns c = rw (c .before .before .before .before .before .enum-told .given .1, met (c .before .before .before .before .load .ensures) (c .before .before .v .given .1), c .exts-b .ensures)
 
 returns-2 : tie.Need-returns-2
-returns-2 c = ?
+returns-2 c = rw (c .before .before .before .enum-told .given .1, met (c .before .before .load .ensures) (c .enum-told2 .given .1))
 
 returns-3 : tie.Need-returns-3
-returns-3 c = ?
+returns-3 c = rw (c .before .before .before .before .before .enum-told3 .given .1, met (c .before .before .before .before .load2 .ensures) (c .before .before .v2 .given .1), c .exts-w .ensures)
 
 returns-4 : tie.Need-returns-4
-returns-4 c = ?
+returns-4 c = rw (c .before .before .before .enum-told3 .given .1, met (c .before .before .load2 .ensures) (c .enum-told4 .given .1))
 
 returns-5 : tie.Need-returns-5
-returns-5 c = ?
+returns-5 c = rw (c .before .enum-told5 .given .1, c .load3 .ensures) (load-long _)
 
 pub load-spec : {M : Type 1} → statement M
 load-spec =

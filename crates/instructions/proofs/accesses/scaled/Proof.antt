@@ -1,3 +1,6 @@
+-- `scaled` multiplies by the bytes of the size, arm by arm.
+-- Assumes nothing.
+use native.Mathlib.Omega.{arith}
 use borrow.Author.Needs.{needs}
 use Rattle.instructions.proofs.accesses.scaled.Statement.{statement}
 use Rattle.instructions.proofs.accesses.scaled.Tie as tie
@@ -18,13 +21,13 @@ mul-result-2 : tie.Need-mul-result-2
 mul-result-2 c = search needs
 
 returns : tie.Need-returns
-returns c = ?
+returns c = rw (c .enum-told .given .1) (omega arith)
 
 returns-2 : tie.Need-returns-2
-returns-2 c = ?
+returns-2 c = rw (c .enum-told2 .given .1)
 
 returns-3 : tie.Need-returns-3
-returns-3 c = ?
+returns-3 c = rw (c .enum-told3 .given .1)
 
 pub scaled-spec : {M : Type 1} → statement M
 scaled-spec =

@@ -1,3 +1,5 @@
+-- `store` stores by the size.
+-- Assumes nothing.
 use borrow.Author.Needs.{needs}
 use Rattle.instructions.proofs.accesses.store.Statement.{statement}
 use Rattle.instructions.proofs.accesses.store.Tie as tie
@@ -27,19 +29,19 @@ same-length : tie.Need-same-length
 same-length c = search needs
 
 returns : tie.Need-returns
-returns c = ?
+returns c = rw (c .before .before .before .before .enum-told .given .1) (c .before .before .store .ensures)
 
 same-length-2 : tie.Need-same-length-2
 same-length-2 c = search needs
 
 returns-2 : tie.Need-returns-2
-returns-2 c = ?
+returns-2 c = rw (c .before .before .before .before .enum-told2 .given .1) (c .before .before .store2 .ensures)
 
 same-length-3 : tie.Need-same-length-3
 same-length-3 c = search needs
 
 returns-3 : tie.Need-returns-3
-returns-3 c = ?
+returns-3 c = rw (c .before .before .before .before .enum-told3 .given .1) (c .before .before .store3 .ensures)
 
 pub store-spec : {M : Type 1} → statement M
 store-spec =

@@ -1,3 +1,5 @@
+-- `accumulated` adds up by the operation.
+-- Assumes nothing.
 use borrow.Author.Needs.{needs}
 use Rattle.instructions.proofs.accumulate.accumulated.Statement.{statement}
 use Rattle.instructions.proofs.accumulate.accumulated.Tie as tie
@@ -17,10 +19,10 @@ mac-w-requires : tie.Need-mac-w-requires
 mac-w-requires c κs = search needs
 
 returns : tie.Need-returns
-returns c = ?
+returns c = rw (c .before .enum-told .given .1, c .mac-l .ensures)
 
 returns-2 : tie.Need-returns-2
-returns-2 c = ?
+returns-2 c = rw (c .before .enum-told2 .given .1, c .mac-w .ensures)
 
 pub accumulated-spec : {M : Type 1} → statement M
 accumulated-spec =

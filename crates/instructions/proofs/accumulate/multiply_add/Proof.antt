@@ -1,3 +1,11 @@
+-- `multiply_add` reads both operands, steps both registers on and adds up, or faults with nothing changed.
+-- Assumes nothing.
+use mathlib.Core.Path.{refl, sym}
+use lib.Seq.{set-getD, set-set}
+use Rattle.instructions.specs.Promises.{state}
+use Rattle.instructions.specs.State.{withMac, withSr}
+use Rattle.instructions.proofs.Families.{multiply-add}
+use Rattle.instructions.proofs.Answers.{met}
 use borrow.Author.Needs.{needs}
 use Rattle.instructions.proofs.accumulate.multiply_add.Statement.{statement}
 use Rattle.instructions.proofs.accumulate.multiply_add.Tie as tie
@@ -77,13 +85,25 @@ enum-told-2 : tie.Need-enum-told-2
 enum-told-2 c = search needs
 
 returns : tie.Need-returns
-returns c = ?
+returns c = λ k.
+    let a = c .before .before .before .before .before .before .before .before .before .before .before .before .before .before .before .before .before .before .args in
+    let s = state (a .r .now) (withSr (a .sr) (withMac (a .mach .now) (a .macl .now) k)) (a .memory .now) in
+    let kb = c .before .before .before .before .before .before .before .before .before .before .before .before .before .before .before .before .operand-bytes .ensures in
+    rw (multiply-add (a .operation) (a .m) (a .n) s, met (c .before .before .before .before .before .before .before .before .before .before .before .before .before .before .operand .ensures) (c .before .before .before .before .before .before .before .before .before .before .before .before .b .given .1), sym kb, sym (c .before .before .before .before .before .before .before .before .before .before .wrapping-add-u32 .ensures), kb, met (c .before .before .before .before .before .before .before .before .operand2 .ensures) (c .before .before .before .before .before .before .a .given .1), c .accumulated .ensures, c .before .before .before .wrapping-add-u322 .ensures, kb)
 
 returns-2 : tie.Need-returns-2
-returns-2 c = ?
+returns-2 c = λ k.
+    let a = c .before .before .before .before .before .before .before .before .before .before .before .before .args in
+    let s = state (a .r .now) (withSr (a .sr) (withMac (a .mach .now) (a .macl .now) k)) (a .memory .now) in
+    let kb = c .before .before .before .before .before .before .before .before .before .before .operand-bytes .ensures in
+    rw (multiply-add (a .operation) (a .m) (a .n) s, met (c .before .before .before .before .before .before .before .before .operand .ensures) (c .before .before .before .before .before .before .b .given .1), sym kb, sym (c .before .before .before .before .wrapping-add-u32 .ensures), kb, met (c .before .before .operand2 .ensures) (c .enum-told .given .1), set-set (a .r .now) _ _ _, set-getD (a .r .now) _ _)
 
 returns-3 : tie.Need-returns-3
-returns-3 c = ?
+returns-3 c = λ k.
+    let a = c .before .before .before .before .before .before .args in
+    let s = state (a .r .now) (withSr (a .sr) (withMac (a .mach .now) (a .macl .now) k)) (a .memory .now) in
+    let kb = c .before .before .before .before .operand-bytes .ensures in
+    rw (multiply-add (a .operation) (a .m) (a .n) s, met (c .before .before .operand .ensures) (c .enum-told2 .given .1))
 
 pub multiply-add-spec : {M : Type 1} → statement M
 multiply-add-spec =

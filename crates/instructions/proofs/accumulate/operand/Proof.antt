@@ -1,3 +1,5 @@
+-- `operand` loads by the operation.
+-- Assumes nothing.
 use borrow.Author.Needs.{needs}
 use Rattle.instructions.proofs.accumulate.operand.Statement.{statement}
 use Rattle.instructions.proofs.accumulate.operand.Tie as tie
@@ -17,10 +19,10 @@ load-requires-2 : tie.Need-load-requires-2
 load-requires-2 c κs = search needs
 
 returns : tie.Need-returns
-returns c = ?
+returns c = rw (c .before .enum-told .given .1, c .load .ensures)
 
 returns-2 : tie.Need-returns-2
-returns-2 c = ?
+returns-2 c = rw (c .before .enum-told2 .given .1, c .load2 .ensures)
 
 pub operand-spec : {M : Type 1} → statement M
 operand-spec =

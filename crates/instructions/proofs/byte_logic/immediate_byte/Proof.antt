@@ -1,3 +1,10 @@
+-- `immediate_byte` replaces the byte, or tells of it, or faults with nothing changed.
+-- Assumes nothing.
+use Rattle.instructions.specs.Execute.{execute}
+use mathlib.Core.Path.{refl, sym}
+use Rattle.instructions.specs.State.{withGbr, withSr}
+use Rattle.instructions.proofs.Answers.{met}
+use Rattle.instructions.proofs.Families.{byte-failed}
 use borrow.Author.Needs.{needs}
 use Rattle.instructions.proofs.byte_logic.immediate_byte.Statement.{statement}
 use Rattle.instructions.proofs.byte_logic.immediate_byte.Tie as tie
@@ -59,31 +66,45 @@ same-length : tie.Need-same-length
 same-length c = search needs
 
 returns : tie.Need-returns
-returns c = ?
+unfolding execute
+returns c = λ k.
+    let a = c .before .before .before .before .before .before .before .before .before .before .before .before .before .before .before .args in
+    rw (c .before .before .before .before .before .enum-told .given .1, sym (c .before .before .before .before .before .before .before .before .before .before .before .before .wrapping-add-u32 .ensures), met (c .before .before .before .before .before .before .before .before .before .before .load .ensures) (c .before .before .before .before .before .before .before .before .v .given .1), sym (c .before .before .before .before .and .ensures))
+    (c .before .before .replace .ensures (a .r .now) (withSr (a .sr .now) (withGbr (a .gbr) k)))
 
 same-length-2 : tie.Need-same-length-2
 same-length-2 c = search needs
 
 returns-2 : tie.Need-returns-2
-returns-2 c = ?
+unfolding execute
+returns-2 c = λ k.
+    let a = c .before .before .before .before .before .before .before .before .before .before .before .before .before .before .before .args in
+    rw (c .before .before .before .before .before .enum-told2 .given .1, sym (c .before .before .before .before .before .before .before .before .before .before .before .before .wrapping-add-u32 .ensures), met (c .before .before .before .before .before .before .before .before .before .before .load .ensures) (c .before .before .before .before .before .before .before .before .v .given .1), sym (c .before .before .before .before .or .ensures))
+    (c .before .before .replace2 .ensures (a .r .now) (withSr (a .sr .now) (withGbr (a .gbr) k)))
 
 same-length-3 : tie.Need-same-length-3
 same-length-3 c = search needs
 
 returns-3 : tie.Need-returns-3
-returns-3 c = ?
+unfolding execute
+returns-3 c = λ k. rw (c .before .before .before .enum-told3 .given .1, sym (c .before .before .before .before .before .before .before .before .before .before .wrapping-add-u32 .ensures), met (c .before .before .before .before .before .before .before .before .load .ensures) (c .before .before .before .before .before .before .v .given .1), c .with-t .ensures, c .before .tst .ensures)
 
 same-length-4 : tie.Need-same-length-4
 same-length-4 c = search needs
 
 returns-4 : tie.Need-returns-4
-returns-4 c = ?
+unfolding execute
+returns-4 c = λ k.
+    let a = c .before .before .before .before .before .before .before .before .before .before .before .before .before .before .before .args in
+    rw (c .before .before .before .before .before .enum-told4 .given .1, sym (c .before .before .before .before .before .before .before .before .before .before .before .before .wrapping-add-u32 .ensures), met (c .before .before .before .before .before .before .before .before .before .before .load .ensures) (c .before .before .before .before .before .before .before .before .v .given .1), sym (c .before .before .before .before .xor .ensures))
+    (c .before .before .replace3 .ensures (a .r .now) (withSr (a .sr .now) (withGbr (a .gbr) k)))
 
 same-length-5 : tie.Need-same-length-5
 same-length-5 c = search needs
 
 returns-5 : tie.Need-returns-5
-returns-5 c = ?
+returns-5 c = λ k. byte-failed (c .before .before .before .before .before .before .before .args .operation) _ _
+    (rw (sym (c .before .before .before .before .wrapping-add-u32 .ensures)) (met (c .before .before .load .ensures) (c .enum-told5 .given .1)))
 
 pub immediate-byte-spec : {M : Type 1} → statement M
 immediate-byte-spec =

@@ -1,3 +1,7 @@
+-- `replace` stores the byte, or faults with the memory as it was.
+-- Assumes nothing.
+use Rattle.instructions.proofs.Answers.{store-done, store-failed}
+use Rattle.instructions.specs.Promises.{state}
 use borrow.Author.Needs.{needs}
 use Rattle.instructions.proofs.byte_logic.replace.Statement.{statement}
 use Rattle.instructions.proofs.byte_logic.replace.Tie as tie
@@ -15,13 +19,19 @@ same-length : tie.Need-same-length
 same-length c = search needs
 
 returns : tie.Need-returns
-returns c = ?
+returns c = λ r k.
+    let a = c .before .before .before .before .before .before .before .args in
+    let s = state r k (a .memory .now) in
+    store-done 1 (a .at) (a .byte) s s _ _ (c .before .before .before .before .store .ensures) (c .enum-told .given .1)
 
 same-length-2 : tie.Need-same-length-2
 same-length-2 c = search needs
 
 returns-2 : tie.Need-returns-2
-returns-2 c = ?
+returns-2 c = λ r k.
+    let a = c .before .before .before .before .before .before .before .args in
+    let s = state r k (a .memory .now) in
+    store-failed 1 (a .at) (a .byte) s s _ _ (c .before .before .before .before .store .ensures) (c .enum-told2 .given .1)
 
 pub replace-spec : {M : Type 1} → statement M
 replace-spec =

@@ -1,3 +1,6 @@
+-- `branch` delays to its target, and BSR sets PR.
+-- Assumes nothing.
+use Rattle.instructions.specs.Execute.{execute}
 use borrow.Author.Needs.{needs}
 use Rattle.instructions.proofs.flows.branch.Statement.{statement}
 use Rattle.instructions.proofs.flows.branch.Tie as tie
@@ -16,10 +19,12 @@ following-requires : tie.Need-following-requires
 following-requires c κs = search needs
 
 returns : tie.Need-returns
-returns c = ?
+unfolding execute
+returns c = λ k r memory. rw (c .enum-told .given .1, c .before .before .long-branch .ensures)
 
 returns-2 : tie.Need-returns-2
-returns-2 c = ?
+unfolding execute
+returns-2 c = λ k r memory. rw (c .before .enum-told2 .given .1, c .following .ensures, c .before .before .before .long-branch .ensures)
 
 pub branch-spec : {M : Type 1} → statement M
 branch-spec =

@@ -1,3 +1,6 @@
+-- `branch_if` leads to its target by T, at once or after the slot.
+-- Assumes nothing.
+use Rattle.instructions.specs.Execute.{execute}
 use borrow.Author.Needs.{needs}
 use Rattle.instructions.proofs.flows.branch_if.Statement.{statement}
 use Rattle.instructions.proofs.flows.branch_if.Tie as tie
@@ -32,16 +35,20 @@ delay-if-requires-2 : tie.Need-delay-if-requires-2
 delay-if-requires-2 c κs = search needs
 
 returns : tie.Need-returns
-returns c = ?
+unfolding execute
+returns c = λ k r memory. rw (c .before .enum-told .given .1, c .jump-if .ensures, c .before .before .before .branch .ensures)
 
 returns-2 : tie.Need-returns-2
-returns-2 c = ?
+unfolding execute
+returns-2 c = λ k r memory. rw (c .before .enum-told2 .given .1, c .delay-if .ensures, c .before .before .before .branch .ensures)
 
 returns-3 : tie.Need-returns-3
-returns-3 c = ?
+unfolding execute
+returns-3 c = λ k r memory. rw (c .before .enum-told3 .given .1, c .jump-if2 .ensures, c .before .before .before .branch .ensures)
 
 returns-4 : tie.Need-returns-4
-returns-4 c = ?
+unfolding execute
+returns-4 c = λ k r memory. rw (c .before .enum-told4 .given .1, c .delay-if2 .ensures, c .before .before .before .branch .ensures)
 
 pub branch-if-spec : {M : Type 1} → statement M
 branch-if-spec =

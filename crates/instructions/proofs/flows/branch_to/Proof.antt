@@ -1,3 +1,6 @@
+-- `branch_to` delays to the target that the register gives, and BSRF and JSR set PR.
+-- Assumes nothing.
+use Rattle.instructions.specs.Execute.{execute}
 use borrow.Author.Needs.{needs}
 use Rattle.instructions.proofs.flows.branch_to.Statement.{statement}
 use Rattle.instructions.proofs.flows.branch_to.Tie as tie
@@ -36,16 +39,20 @@ following-requires-2 : tie.Need-following-requires-2
 following-requires-2 c κs = search needs
 
 returns : tie.Need-returns
-returns c = ?
+unfolding execute
+returns c = λ k memory. rw (c .before .enum-told .given .1, c .far .ensures)
 
 returns-2 : tie.Need-returns-2
-returns-2 c = ?
+unfolding execute
+returns-2 c = λ k memory. rw (c .before .before .enum-told2 .given .1, c .far2 .ensures, c .before .following .ensures)
 
 returns-3 : tie.Need-returns-3
-returns-3 c = ?
+unfolding execute
+returns-3 c = λ k memory. rw (c .enum-told3 .given .1)
 
 returns-4 : tie.Need-returns-4
-returns-4 c = ?
+unfolding execute
+returns-4 c = λ k memory. rw (c .before .enum-told4 .given .1, c .following2 .ensures)
 
 pub branch-to-spec : {M : Type 1} → statement M
 branch-to-spec =

@@ -1,9 +1,11 @@
+-- `jump_if` goes by the test.
+-- Assumes nothing.
 use borrow.Author.Needs.{needs}
 use Rattle.instructions.proofs.flows.jump_if.Statement.{statement}
 use Rattle.instructions.proofs.flows.jump_if.Tie as tie
 
 returns : tie.Need-returns
-returns c = ?
+returns c = rw (c .if1 .taken)
 
 returns-2 : tie.Need-returns-2
 returns-2 c = search needs

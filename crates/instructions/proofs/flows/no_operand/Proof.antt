@@ -1,3 +1,6 @@
+-- `no_operand` does what its clause says to MACH, MACL and SR, arm by arm.
+-- Assumes nothing.
+use Rattle.instructions.specs.Execute.{execute}
 use borrow.Author.Needs.{needs}
 use Rattle.instructions.proofs.flows.no_operand.Statement.{statement}
 use Rattle.instructions.proofs.flows.no_operand.Tie as tie
@@ -35,22 +38,28 @@ enum-told-6 : tie.Need-enum-told-6
 enum-told-6 c = search needs
 
 returns : tie.Need-returns
-returns c = ?
+unfolding execute
+returns c = λ k r memory. rw (c .enum-told .given .1)
 
 returns-2 : tie.Need-returns-2
-returns-2 c = ?
+unfolding execute
+returns-2 c = λ k r memory. rw (c .before .before .enum-told2 .given .1, c .with-t .ensures)
 
 returns-3 : tie.Need-returns-3
-returns-3 c = ?
+unfolding execute
+returns-3 c = λ k r memory. rw (c .before .before .before .enum-told3 .given .1, c .with-mqt .ensures, c .before .before .div0u .ensures)
 
 returns-4 : tie.Need-returns-4
-returns-4 c = ?
+unfolding execute
+returns-4 c = λ k r memory. rw (c .enum-told4 .given .1)
 
 returns-5 : tie.Need-returns-5
-returns-5 c = ?
+unfolding execute
+returns-5 c = λ k r memory. rw (c .before .before .enum-told5 .given .1, c .with-t2 .ensures)
 
 returns-6 : tie.Need-returns-6
-returns-6 c = ?
+unfolding execute
+returns-6 c = λ k r memory. rw (c .enum-told6 .given .1)
 
 pub no-operand-spec : {M : Type 1} → statement M
 no-operand-spec =

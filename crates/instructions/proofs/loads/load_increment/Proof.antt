@@ -1,3 +1,11 @@
+-- `load_increment` steps Rm on and puts what was loaded into Rn, or faults with nothing changed.
+-- Assumes nothing.
+use Rattle.memory.specs.Access.{loaded}
+use Rattle.instructions.specs.Promises.{state}
+use Rattle.instructions.specs.State.{reg}
+use Rattle.instructions.specs.Shapes.{bytes, extended, gives, steppedOn}
+use Rattle.instructions.proofs.Families.{load-increment as mov-increment}
+use Rattle.instructions.proofs.Answers.{met, load-value, load-failed}
 use borrow.Author.Needs.{needs}
 use Rattle.instructions.proofs.loads.load_increment.Statement.{statement}
 use Rattle.instructions.proofs.loads.load_increment.Tie as tie
@@ -43,10 +51,18 @@ enum-told : tie.Need-enum-told
 enum-told c = search needs
 
 returns : tie.Need-returns
-returns c = ?
+returns c = λ k.
+    let a = c .before .before .before .before .before .before .before .before .args in
+    let s = state (a .r .now) (k) (a .memory .now) in
+    rw (mov-increment (a .size) (a .m) (a .n) s, c .wrapping-add-u32 .ensures, c .before .bytes .ensures)
+    (load-value (a .size) (loaded (bytes (a .size)) (a .memory .now) (reg (a .m) s)) _ (λ w. gives (a .n) w (steppedOn (bytes (a .size)) (a .m) s)) s (met (c .before .before .before .before .before .load .ensures) (c .before .before .before .v .given .1)))
 
 returns-2 : tie.Need-returns-2
-returns-2 c = ?
+returns-2 c = λ k.
+    let a = c .before .before .before .before .before .args in
+    let s = state (a .r .now) (k) (a .memory .now) in
+    rw (mov-increment (a .size) (a .m) (a .n) s)
+    (load-failed (a .size) (loaded (bytes (a .size)) (a .memory .now) (reg (a .m) s)) (λ w. gives (a .n) (extended (a .size) w) (steppedOn (bytes (a .size)) (a .m) s)) s (met (c .before .before .load .ensures) (c .enum-told .given .1)))
 
 pub load-increment-spec : {M : Type 1} → statement M
 load-increment-spec =

@@ -1,3 +1,8 @@
+-- `relative` loads, or takes, the address that is counted from the PC.
+-- Assumes nothing.
+use Rattle.instructions.specs.Execute.{execute}
+use mathlib.Core.Path.{refl, sym}
+use Rattle.instructions.proofs.Answers.{met}
 use borrow.Author.Needs.{needs}
 use Rattle.instructions.proofs.loads.relative.Statement.{statement}
 use Rattle.instructions.proofs.loads.relative.Tie as tie
@@ -68,19 +73,24 @@ element-write-r-3 : tie.Need-element-write-r-3
 element-write-r-3 c = search needs
 
 returns : tie.Need-returns
-returns c = ?
+unfolding execute
+returns c = λ k. rw (c .before .before .before .before .before .before .enum-told .given .1, sym (c .before .before .before .before .before .relative-word .ensures), met (c .before .before .before .before .load .ensures) (c .before .before .v .given .1), c .exts-w .ensures)
 
 returns-2 : tie.Need-returns-2
-returns-2 c = ?
+unfolding execute
+returns-2 c = λ k. rw (c .before .before .before .before .enum-told .given .1, sym (c .before .before .before .relative-word .ensures), met (c .before .before .load .ensures) (c .enum-told2 .given .1))
 
 returns-3 : tie.Need-returns-3
-returns-3 c = ?
+unfolding execute
+returns-3 c = λ k. rw (c .before .before .before .before .before .enum-told3 .given .1, sym (c .before .before .before .before .relative-long .ensures), met (c .before .before .before .load2 .ensures) (c .before .v2 .given .1))
 
 returns-4 : tie.Need-returns-4
-returns-4 c = ?
+unfolding execute
+returns-4 c = λ k. rw (c .before .before .before .before .enum-told3 .given .1, sym (c .before .before .before .relative-long .ensures), met (c .before .before .load2 .ensures) (c .enum-told4 .given .1))
 
 returns-5 : tie.Need-returns-5
-returns-5 c = ?
+unfolding execute
+returns-5 c = λ k. rw (c .before .enum-told5 .given .1, c .relative-long2 .ensures)
 
 pub relative-spec : {M : Type 1} → statement M
 relative-spec =

@@ -1,3 +1,6 @@
+-- `divide` sets M, Q and T from the step, and DIV1 sets Rn.
+-- Assumes nothing.
+use Rattle.instructions.specs.Execute.{execute}
 use borrow.Author.Needs.{needs}
 use Rattle.instructions.proofs.registers.divide.Statement.{statement}
 use Rattle.instructions.proofs.registers.divide.Tie as tie
@@ -58,10 +61,12 @@ with-mqt-requires-2 : tie.Need-with-mqt-requires-2
 with-mqt-requires-2 c κs = search needs
 
 returns : tie.Need-returns
-returns c = ?
+unfolding execute
+returns c = λ memory k. rw (c .before .before .before .before .enum-told .given .1, c .with-mqt .ensures, c .before .div0s .ensures)
 
 returns-2 : tie.Need-returns-2
-returns-2 c = ?
+unfolding execute
+returns-2 c = λ memory k. rw (c .before .before .before .before .enum-told2 .given .1, c .with-mqt2 .ensures, c .before .div1 .ensures)
 
 pub divide-spec : {M : Type 1} → statement M
 divide-spec =

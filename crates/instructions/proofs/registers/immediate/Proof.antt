@@ -1,3 +1,6 @@
+-- `immediate` adds or moves the extended immediate.
+-- Assumes nothing.
+use Rattle.instructions.specs.Execute.{execute}
 use borrow.Author.Needs.{needs}
 use Rattle.instructions.proofs.registers.immediate.Statement.{statement}
 use Rattle.instructions.proofs.registers.immediate.Tie as tie
@@ -37,10 +40,12 @@ element-write-r-2 : tie.Need-element-write-r-2
 element-write-r-2 c = search needs
 
 returns : tie.Need-returns
-returns c = ?
+unfolding execute
+returns c = λ k memory. rw (c .before .before .enum-told .given .1, c .add .ensures, c .before .before .before .before .exts-b .ensures)
 
 returns-2 : tie.Need-returns-2
-returns-2 c = ?
+unfolding execute
+returns-2 c = λ k memory. rw (c .enum-told2 .given .1, c .before .before .exts-b .ensures)
 
 pub immediate-spec : {M : Type 1} → statement M
 immediate-spec =

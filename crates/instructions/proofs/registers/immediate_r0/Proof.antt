@@ -1,3 +1,6 @@
+-- `immediate_r0` computes with the immediate and R0, arm by arm.
+-- Assumes nothing.
+use Rattle.instructions.specs.Execute.{execute}
 use borrow.Author.Needs.{needs}
 use Rattle.instructions.proofs.registers.immediate_r0.Statement.{statement}
 use Rattle.instructions.proofs.registers.immediate_r0.Tie as tie
@@ -57,19 +60,24 @@ element-write-r-3 : tie.Need-element-write-r-3
 element-write-r-3 c = search needs
 
 returns : tie.Need-returns
-returns c = ?
+unfolding execute
+returns c = λ memory k. rw (c .before .enum-told .given .1, c .and .ensures)
 
 returns-2 : tie.Need-returns-2
-returns-2 c = ?
+unfolding execute
+returns-2 c = λ memory k. rw (c .before .before .before .before .enum-told2 .given .1, c .with-t .ensures, c .before .cmp-eq .ensures, c .before .before .exts-b .ensures)
 
 returns-3 : tie.Need-returns-3
-returns-3 c = ?
+unfolding execute
+returns-3 c = λ memory k. rw (c .before .enum-told3 .given .1, c .or .ensures)
 
 returns-4 : tie.Need-returns-4
-returns-4 c = ?
+unfolding execute
+returns-4 c = λ memory k. rw (c .before .before .before .enum-told4 .given .1, c .with-t2 .ensures, c .before .tst .ensures)
 
 returns-5 : tie.Need-returns-5
-returns-5 c = ?
+unfolding execute
+returns-5 c = λ memory k. rw (c .before .enum-told5 .given .1, c .xor .ensures)
 
 pub immediate-r0-spec : {M : Type 1} → statement M
 immediate-r0-spec =

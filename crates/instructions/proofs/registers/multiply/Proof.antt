@@ -1,3 +1,6 @@
+-- `multiply` sets MACH and MACL, or MACL alone, to the product.
+-- Assumes nothing.
+use Rattle.instructions.specs.Execute.{execute}
 use borrow.Author.Needs.{needs}
 use Rattle.instructions.proofs.registers.multiply.Statement.{statement}
 use Rattle.instructions.proofs.registers.multiply.Tie as tie
@@ -56,19 +59,24 @@ mulu-w-requires : tie.Need-mulu-w-requires
 mulu-w-requires c κs = search needs
 
 returns : tie.Need-returns
-returns c = ?
+unfolding execute
+returns c = λ k memory. rw (c .before .enum-told .given .1, c .dmuls-l .ensures)
 
 returns-2 : tie.Need-returns-2
-returns-2 c = ?
+unfolding execute
+returns-2 c = λ k memory. rw (c .before .enum-told2 .given .1, c .dmulu-l .ensures)
 
 returns-3 : tie.Need-returns-3
-returns-3 c = ?
+unfolding execute
+returns-3 c = λ k memory. rw (c .before .enum-told3 .given .1, c .mul-l .ensures)
 
 returns-4 : tie.Need-returns-4
-returns-4 c = ?
+unfolding execute
+returns-4 c = λ k memory. rw (c .before .enum-told4 .given .1, c .muls-w .ensures)
 
 returns-5 : tie.Need-returns-5
-returns-5 c = ?
+unfolding execute
+returns-5 c = λ k memory. rw (c .before .enum-told5 .given .1, c .mulu-w .ensures)
 
 pub multiply-spec : {M : Type 1} → statement M
 multiply-spec =

@@ -1,3 +1,8 @@
+-- `from_exception` pops PC and SR, or faults with nothing changed.
+-- Assumes nothing.
+use Rattle.instructions.specs.Execute.{execute}
+use mathlib.Core.Path.{refl, sym}
+use Rattle.instructions.proofs.Answers.{met}
 use borrow.Author.Needs.{needs}
 use Rattle.instructions.proofs.returns.from_exception.Statement.{statement}
 use Rattle.instructions.proofs.returns.from_exception.Tie as tie
@@ -34,13 +39,16 @@ enum-told-2 : tie.Need-enum-told-2
 enum-told-2 c = search needs
 
 returns : tie.Need-returns
-returns c = ?
+unfolding execute
+returns c = λ k. rw (met (c .before .before .before .before .before .before .before .before .before .load .ensures) (c .before .before .before .before .before .before .before .pc .given .1), sym (c .before .before .before .before .before .wrapping-add-u32 .ensures), met (c .before .before .before .before .load2 .ensures) (c .before .before .popped .given .1), c .wrapping-add-u322 .ensures)
 
 returns-2 : tie.Need-returns-2
-returns-2 c = ?
+unfolding execute
+returns-2 c = λ k. rw (met (c .before .before .before .before .before .before .before .load .ensures) (c .before .before .before .before .before .pc .given .1), sym (c .before .before .before .wrapping-add-u32 .ensures), met (c .before .before .load2 .ensures) (c .enum-told .given .1))
 
 returns-3 : tie.Need-returns-3
-returns-3 c = ?
+unfolding execute
+returns-3 c = λ k. rw (met (c .before .before .load .ensures) (c .enum-told2 .given .1))
 
 pub from-exception-spec : {M : Type 1} → statement M
 from-exception-spec =

@@ -1,3 +1,7 @@
+-- `return_by` pops for RTE, and delays to PR for RTS.
+-- Assumes nothing.
+use Rattle.instructions.specs.Execute.{execute}
+use Rattle.instructions.specs.State.{withPr}
 use borrow.Author.Needs.{needs}
 use Rattle.instructions.proofs.returns.return_by.Statement.{statement}
 use Rattle.instructions.proofs.returns.return_by.Tie as tie
@@ -13,10 +17,12 @@ enum-told-2 : tie.Need-enum-told-2
 enum-told-2 c = search needs
 
 returns : tie.Need-returns
-returns c = ?
+unfolding execute
+returns c = λ k. rw (c .before .before .before .enum-told .given .1) (c .from-exception .ensures (withPr (c .before .before .before .before .before .before .args .pr) k))
 
 returns-2 : tie.Need-returns-2
-returns-2 c = ?
+unfolding execute
+returns-2 c = λ k. rw (c .enum-told2 .given .1)
 
 pub return-by-spec : {M : Type 1} → statement M
 return-by-spec =

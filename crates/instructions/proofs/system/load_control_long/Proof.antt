@@ -1,3 +1,10 @@
+-- `load_control_long` steps Rm on and writes the register, or faults with nothing changed.
+-- Assumes nothing.
+use mathlib.Core.Path.{refl, sym}
+use Rattle.instructions.specs.Promises.{state}
+use Rattle.instructions.specs.State.{control}
+use Rattle.instructions.proofs.Families.{load-control-long}
+use Rattle.instructions.proofs.Answers.{met}
 use borrow.Author.Needs.{needs}
 use Rattle.instructions.proofs.system.load_control_long.Statement.{statement}
 use Rattle.instructions.proofs.system.load_control_long.Tie as tie
@@ -34,10 +41,14 @@ enum-told : tie.Need-enum-told
 enum-told c = search needs
 
 returns : tie.Need-returns
-returns c = ?
+returns c = λ pc.
+    let a = c .before .before .before .before .before .before .before .before .before .before .before .before .before .before .args in
+    rw (load-control-long (a .register) (a .m) (state (a .r .now) (control pc (a .sr .now) (a .gbr .now) (a .vbr .now) (a .pr .now) (a .mach .now) (a .macl .now)) (a .memory .now)), met (c .before .before .before .before .before .before .before .before .before .before .before .load .ensures) (c .before .before .before .before .before .before .before .before .before .v .given .1), c .write .ensures pc, c .before .before .before .before .before .before .before .wrapping-add-u32 .ensures)
 
 returns-2 : tie.Need-returns-2
-returns-2 c = ?
+returns-2 c = λ pc.
+    let a = c .before .before .before .before .before .args in
+    rw (load-control-long (a .register) (a .m) (state (a .r .now) (control pc (a .sr .now) (a .gbr .now) (a .vbr .now) (a .pr .now) (a .mach .now) (a .macl .now)) (a .memory .now)), met (c .before .before .load .ensures) (c .enum-told .given .1))
 
 pub load-control-long-spec : {M : Type 1} → statement M
 load-control-long-spec =

@@ -1,3 +1,7 @@
+-- `store_control` sets Rn from the register.
+-- Assumes nothing.
+use Rattle.instructions.specs.Promises.{state}
+use Rattle.instructions.proofs.Families.{store-control}
 use borrow.Author.Needs.{needs}
 use Rattle.instructions.proofs.system.store_control.Statement.{statement}
 use Rattle.instructions.proofs.system.store_control.Tie as tie
@@ -15,7 +19,9 @@ element-write-r : tie.Need-element-write-r
 element-write-r c = search needs
 
 returns : tie.Need-returns
-returns c = ?
+returns c = λ memory.
+    let a = c .before .args in
+    rw (store-control (a .register) (a .n) (state (a .r .now) (a .control) memory), c .register .ensures)
 
 pub store-control-spec : {M : Type 1} → statement M
 store-control-spec = tie.close (tie.spec register-requires cast-r mul-r element-write-r returns)
