@@ -9,5 +9,6 @@ use Rattle.instructions.specs.Shapes.{Effect}
 use Rattle.instructions.specs.State.{State}
 
 pub anywhere : (slot : Bool) (x : Meaning) (s : State) (e : Effect) → rewritesPc x ≡ false → execute x s ≡ e → attempted slot x s ≡ e
+unfolding attempted
 anywhere true x s e stays effect = rw stays effect
 anywhere false x s e stays effect = effect

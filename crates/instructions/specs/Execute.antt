@@ -327,5 +327,5 @@ execute (TwoRegisters Xtrct m n) s = gives n (xtrct (reg m s) (reg n s)) s
 execute Undefined s = leads Illegal s
 
 -- Document 01, "One step", item 3: in a slot, an instruction that rewrites the PC is as illegal as an undefined word.
-abbrev pub attempted : Bool → Meaning → State → Effect
+unfoldable pub attempted : Bool → Meaning → State → Effect
 attempted slot x s = cond (slot && rewritesPc x) (leads Illegal s) (execute x s)

@@ -1,6 +1,6 @@
 -- `rewrite_pc` is illegal in a slot, and does what its families say elsewhere; no other family comes here.
 -- Assumes nothing.
-use Rattle.instructions.specs.Execute.{execute}
+use Rattle.instructions.specs.Execute.{attempted, execute}
 use mathlib.Core.Path.{_≡_, sym, _∙_}
 use mathlib.Core.Bool.{true, false}
 use Rattle.instructions.specs.State.{control}
@@ -13,6 +13,7 @@ use Rattle.instructions.proofs.flows.branch_to.Reads as branch-to-reads
 use Rattle.instructions.proofs.returns.return_by.Reads as return-by-reads
 
 returns : tie.Need-returns
+unfolding attempted
 returns c = λ gbr vbr mach macl. rw (c .if1 .taken, c .before .before .pre)
 
 enum-known-meaning : tie.Need-enum-known-meaning
@@ -46,30 +47,35 @@ cast-t25 : tie.Need-cast-t25
 cast-t25 c = search needs
 
 returns-2 : tie.Need-returns-2
+unfolding attempted
 returns-2 c = λ gbr vbr mach macl.
     let a = c .before .before .before .before .before .before .before .args in
     rw (c .before .before .before .before .before .if1 .left, c .before .before .before .meaning .given .1) (c .branch-if .ensures (control (a .pc) (a .sr .now) gbr vbr (a .pr .now) mach macl) (a .r .now) (a .memory .now))
 
 returns-3 : tie.Need-returns-3
+unfolding attempted
 returns-3 c = λ gbr vbr mach macl.
     let a = c .before .before .before .before .before .before .before .args in
     rw (c .before .before .before .before .before .if1 .left, c .before .before .before .meaning2 .given .1) (c .branch .ensures (control (a .pc) (a .sr .now) gbr vbr (a .pr .now) mach macl) (a .r .now) (a .memory .now))
 
 returns-4 : tie.Need-returns-4
+unfolding attempted
 returns-4 c = λ gbr vbr mach macl.
     let a = c .before .before .before .before .before .before .before .before .args in
     rw (c .before .before .before .before .before .before .if1 .left, c .before .before .before .before .meaning3 .given .1) (c .branch-to .ensures (control (a .pc) (a .sr .now) gbr vbr (a .pr .now) mach macl) (a .memory .now))
 
 returns-5 : tie.Need-returns-5
+unfolding attempted
 returns-5 c = λ gbr vbr mach macl.
     let a = c .before .before .before .before .before .before .before .before .before .args in
     rw (c .before .before .before .before .before .before .before .if1 .left, c .before .before .before .before .before .meaning4 .given .1) (c .return-by .ensures (control (a .pc) (a .sr .now) gbr vbr (a .pr .now) mach macl))
 
 returns-6 : tie.Need-returns-6
-unfolding execute
+unfolding attempted execute
 returns-6 c = λ gbr vbr mach macl. rw (c .before .before .before .if1 .left, c .before .meaning5 .given .1)
 
 returns-7 : tie.Need-returns-7
+unfolding attempted
 returns-7 c = λ gbr vbr mach macl.
     let never : _≡_ false true = stays (c .before .before .before .args .meaning) (c .match .keys6) ∙ c .before .before .before .pre in
     cc
