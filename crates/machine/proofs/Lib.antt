@@ -1,1 +1,5 @@
 pub mod Examples
+pub mod Invariants
+pub mod Ranges
+pub mod Reasons
+pub mod Runs

@@ -1,0 +1,95 @@
+-- No step stops the machine for reason 3: in a slot no instruction is a delayed branch, since one that rewrites the PC is illegal there.
+-- Assumes nothing.
+use mathlib.Core.Path.{_≡_, refl}
+use Prim.Native.Nat.{ℕ}
+use Rattle.memory.specs.Access.{loaded}
+use Rattle.memory.specs.declared.Loaded.{Loaded}
+use Rattle.memory.specs.declared.Loaded.the-variants as loads
+use Rattle.decoder.specs.Code.{meaning}
+use Rattle.decoder.specs.declared.meaning.Meaning.{Meaning}
+use Rattle.instructions.specs.Execute.{attempted}
+use Rattle.instructions.specs.State.{State}
+use Rattle.instructions.specs.declared.control.Flow.{Flow}
+use Rattle.instructions.specs.declared.control.Flow.the-variants.{Next, Jump, Delay, Sleep, Trap, Fault, Illegal}
+use Rattle.instructions.proofs.Effects.{Straight, no-branch-in-slot}
+use Rattle.machine.specs.Exceptions.{Situation, enter, savedPc, addressError}
+use Rattle.machine.specs.Run.{run}
+use Rattle.machine.specs.Step.{step, halted, inSlot, illegalNumber, nextPc, settle, fetched}
+use Rattle.machine.specs.declared.Mode.{Mode}
+use Rattle.machine.specs.declared.Mode.the-variants.{Running, Slot, Asleep, Stopped}
+use Rattle.machine.specs.declared.Stop.the-variants.{Push, Vector, Branch}
+use Rattle.machine.proofs.Invariants.{either, by-entry, run-keeps}
+
+-- Any mode but stopped for reason 3.
+abbrev Other : Mode → Type 0
+Other Running = Unit
+Other (Slot target) = Unit
+Other Asleep = Unit
+Other (Stopped Push) = Unit
+Other (Stopped Vector) = Unit
+Other (Stopped Branch) = ⊥
+
+abbrev Elsewhere : Situation → Type 0
+Elsewhere x = Other (x .mode)
+
+enters : (number saved : ℕ) (s : State) → Elsewhere (enter number saved s)
+enters number saved s = by-entry Elsewhere number saved s tt tt tt
+
+-- What a flow may be in a mode: in a slot, no delayed branch.
+abbrev Admits : Mode → Flow → Type 0
+Admits (Slot target) flow = Straight flow
+Admits Running flow = Unit
+Admits Asleep flow = Unit
+Admits (Stopped reason) flow = Unit
+
+delays :
+    (mode : Mode) (target : ℕ) (before after : State) → Other mode → Admits mode (Delay target) →
+    Elsewhere (settle (Delay target) mode before after)
+delays Running target before after other admitted = tt
+delays (Slot waiting) target before after other admitted = absurd admitted
+delays Asleep target before after other admitted = tt
+delays (Stopped reason) target before after other admitted = other
+
+settles :
+    (flow : Flow) (mode : Mode) (before after : State) → Other mode → Admits mode flow →
+    Elsewhere (settle flow mode before after)
+settles Next mode before after other admitted = tt
+settles (Jump target) mode before after other admitted = tt
+settles (Delay target) mode before after other admitted = delays mode target before after other admitted
+settles Sleep mode before after other admitted = tt
+settles (Trap number) mode before after other admitted = enters number (nextPc mode before) before
+settles Fault mode before after other admitted = enters addressError (nextPc mode before) before
+settles Illegal mode before after other admitted = enters (illegalNumber mode) (savedPc mode (before .control .pc)) before
+
+admits : (mode : Mode) (x : Meaning) (s : State) → Admits mode (attempted (inSlot mode) x s .flow)
+admits (Slot target) x s = no-branch-in-slot x s
+admits Running x s = tt
+admits Asleep x s = tt
+admits (Stopped reason) x s = tt
+
+fetches : (mode : Mode) (l : Loaded) (s : State) → Other mode → Elsewhere (fetched mode l s)
+fetches mode (loads.Value w) s other =
+    settles (attempted (inSlot mode) (meaning w) s .flow) mode s (attempted (inSlot mode) (meaning w) s .after) other
+    (admits mode (meaning w) s)
+fetches mode loads.Fault s other = enters addressError (savedPc mode (s .control .pc)) s
+
+steps : (x : Situation) → Elsewhere x → Elsewhere (step x)
+unfolding step
+steps x other =
+    either Elsewhere (halted (x .mode)) x _ other
+    (fetches (x .mode) (loaded 2 (x .state .memory) (x .state .control .pc)) (x .state) other)
+
+-- A mode that came to be the one stopped for reason 3 was it already.
+was : (before after : Mode) → (Other before → Other after) → after ≡ Stopped Branch → before ≡ Stopped Branch
+was Running after keeps stopped = absurd (rw stopped at (keeps tt))
+was (Slot target) after keeps stopped = absurd (rw stopped at (keeps tt))
+was Asleep after keeps stopped = absurd (rw stopped at (keeps tt))
+was (Stopped Push) after keeps stopped = absurd (rw stopped at (keeps tt))
+was (Stopped Vector) after keeps stopped = absurd (rw stopped at (keeps tt))
+was (Stopped Branch) after keeps stopped = refl
+
+pub never-reason-3 : (x : Situation) → step x .mode ≡ Stopped Branch → x .mode ≡ Stopped Branch
+never-reason-3 x = was (x .mode) (step x .mode) (steps x)
+
+pub run-never-reason-3 : (n : ℕ) (x : Situation) → run n x .after .mode ≡ Stopped Branch → x .mode ≡ Stopped Branch
+run-never-reason-3 n x = was (x .mode) (run n x .after .mode) (run-keeps Elsewhere steps n x)
