@@ -19,6 +19,21 @@ impl Control {
     // M, Q, I, S and T; every other bit of SR is zero (document 01, "State").
     pub const SR_MASK: u32 = 0x3f3;
 
+    // What LDC and LDS write. SR takes its mask (document 01, "Instructions with corners").
+    pub fn with_register(mut self, register: ControlRegister, value: u32) -> Self
+        ensures { λ r. ⌜ r ≡ Shapes.withControlRegister register value self ⌝ }
+    {
+        match register {
+            ControlRegister::Gbr => self.gbr = value,
+            ControlRegister::Sr => self.sr = value & Self::SR_MASK,
+            ControlRegister::Vbr => self.vbr = value,
+            ControlRegister::Mach => self.mach = value,
+            ControlRegister::Macl => self.macl = value,
+            ControlRegister::Pr => self.pr = value,
+        }
+        self
+    }
+
     // What STC and STS read.
     pub fn register(self, register: ControlRegister) -> u32
         ensures { λ r. ⌜ r ≡ Shapes.controlRegister register self ⌝ }

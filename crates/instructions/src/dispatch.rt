@@ -34,6 +34,15 @@ pub fn attempt(
 ) -> Flow
     ensures { λ f. ⌜ Attempts slot meaning (control pc (now (sr .entry)) (now (gbr .entry)) (now (vbr .entry)) (now (pr .entry)) (now (mach .entry)) (now (macl .entry))) (now (r .entry)) (now (memory .entry)) f (control pc (now (sr .exit)) (now (gbr .exit)) (now (vbr .exit)) (now (pr .exit)) (now (mach .exit)) (now (macl .exit))) (now (r .exit)) (now (memory .exit)) ⌝ }
 {
+    let control = Control {
+        pc,
+        sr: *sr,
+        gbr: *gbr,
+        vbr: *vbr,
+        pr: *pr,
+        mach: *mach,
+        macl: *macl,
+    };
     match meaning {
         Meaning::Undefined => Flow::Illegal,
         Meaning::NoOperand(op) => flows::no_operand(op, sr, mach, macl),
@@ -62,7 +71,7 @@ pub fn attempt(
             Flow::Next
         }
         Meaning::MultiplyAdd(op, m, n) => {
-            accumulate::multiply_add(op, m, n, *sr, mach, macl, r, memory)
+            accumulate::multiply_add(op, m, n, control.sr, mach, macl, r, memory)
         }
         Meaning::Immediate(op, i, n) => {
             registers::immediate(op, i, n, r);
@@ -72,42 +81,45 @@ pub fn attempt(
             registers::immediate_r0(op, i, sr, r);
             Flow::Next
         }
-        Meaning::ImmediateByte(op, i) => byte_logic::immediate_byte(op, i, *gbr, sr, r, memory),
-        Meaning::Load(size, address, n) => loads::load(size, address, n, *gbr, r, memory),
+        Meaning::ImmediateByte(op, i) => byte_logic::immediate_byte(
+            op,
+            i,
+            control.gbr,
+            sr,
+            r,
+            memory,
+        ),
+        Meaning::Load(size, address, n) => loads::load(size, address, n, control.gbr, r, memory),
         Meaning::LoadIncrement(size, m, n) => loads::load_increment(size, m, n, r, memory),
-        Meaning::Store(size, m, address) => stores::store(size, m, address, *gbr, r, memory),
+        Meaning::Store(size, m, address) => stores::store(size, m, address, control.gbr, r, memory),
         Meaning::StoreDecrement(size, m, n) => stores::store_decrement(size, m, n, r, memory),
         Meaning::Relative(op, d, n) => loads::relative(op, d, n, pc, r, memory),
         Meaning::LoadControl(register, m) => {
-            system::load_control(register, m, sr, gbr, vbr, pr, mach, macl, r);
+            let after = system::load_control(register, m, control, r);
+            *sr = after.sr;
+            *gbr = after.gbr;
+            *vbr = after.vbr;
+            *pr = after.pr;
+            *mach = after.mach;
+            *macl = after.macl;
             Flow::Next
         }
         Meaning::LoadControlLong(register, m) => {
-            system::load_control_long(register, m, sr, gbr, vbr, pr, mach, macl, r, memory)
+            let popped = system::load_control_long(register, m, control, r, memory);
+            let after = popped.control;
+            *sr = after.sr;
+            *gbr = after.gbr;
+            *vbr = after.vbr;
+            *pr = after.pr;
+            *mach = after.mach;
+            *macl = after.macl;
+            popped.flow
         }
         Meaning::StoreControl(register, n) => {
-            let control = Control {
-                pc,
-                sr: *sr,
-                gbr: *gbr,
-                vbr: *vbr,
-                pr: *pr,
-                mach: *mach,
-                macl: *macl,
-            };
             system::store_control(register, n, control, r);
             Flow::Next
         }
         Meaning::StoreControlLong(register, n) => {
-            let control = Control {
-                pc,
-                sr: *sr,
-                gbr: *gbr,
-                vbr: *vbr,
-                pr: *pr,
-                mach: *mach,
-                macl: *macl,
-            };
             system::store_control_long(register, n, control, r, memory)
         }
         Meaning::TasB(n) => byte_logic::tas_b(n, sr, r, memory),

@@ -1,29 +1,35 @@
 -- `load_control` writes the register from Rm.
 -- Assumes nothing.
 use Rattle.instructions.specs.Promises.{state}
-use Rattle.instructions.specs.State.{control}
 use Rattle.instructions.proofs.Families.{load-control}
 use borrow.Author.Needs.{needs}
 use Rattle.instructions.proofs.system.load_control.Statement.{statement}
 use Rattle.instructions.proofs.system.load_control.Tie as tie
+use Rattle.instructions.proofs.control.Control.with_register.Reads as with-register-reads
 
-cast-write : tie.Need-cast-write
-cast-write c = search needs
+cast-with-register : tie.Need-cast-with-register
+cast-with-register c = search needs
 
-mul-write : tie.Need-mul-write
-mul-write c = search needs
+mul-with-register : tie.Need-mul-with-register
+mul-with-register c = search needs
 
-element-copy-out-write : tie.Need-element-copy-out-write
-element-copy-out-write c = search needs
+element-copy-out-with-register : tie.Need-element-copy-out-with-register
+element-copy-out-with-register c = search needs
 
-write-requires : tie.Need-write-requires
-write-requires c κs = search needs
+with-register-requires : tie.Need-with-register-requires
+with-register-requires c κs = search needs
 
 returns : tie.Need-returns
-returns c = λ pc memory.
-    let a = c .before .before .before .before .before .before .before .before .args in
-    rw (load-control (a .register) (a .m) (state (a .r .now) (control pc (a .sr .now) (a .gbr .now) (a .vbr .now) (a .pr .now) (a .mach .now) (a .macl .now)) memory), c .write .ensures pc)
+returns c = λ memory.
+    let a = c .before .before .args in
+    rw (load-control (a .register) (a .m) (state (a .r .now) (a .control) memory), c .with-register .ensures)
 
 pub load-control-spec : {M : Type 1} → statement M
 load-control-spec =
-    tie.close (tie.spec cast-write mul-write element-copy-out-write write-requires returns)
+    tie.close
+    (tie.spec
+    cast-with-register
+    mul-with-register
+    element-copy-out-with-register
+    with-register-requires
+    returns)

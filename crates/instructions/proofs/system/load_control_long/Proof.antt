@@ -2,12 +2,12 @@
 -- Assumes nothing.
 use mathlib.Core.Path.{refl, sym}
 use Rattle.instructions.specs.Promises.{state}
-use Rattle.instructions.specs.State.{control}
 use Rattle.instructions.proofs.Families.{load-control-long}
 use Rattle.instructions.proofs.Answers.{met}
 use borrow.Author.Needs.{needs}
 use Rattle.instructions.proofs.system.load_control_long.Statement.{statement}
 use Rattle.instructions.proofs.system.load_control_long.Tie as tie
+use Rattle.instructions.proofs.control.Control.with_register.Reads as with-register-reads
 use Rattle.std.proofs.num.wrapping_add_u32.Reads as wrapping-add-u32-reads
 
 cast-from : tie.Need-cast-from
@@ -34,21 +34,19 @@ mul-r c = search needs
 element-write-r : tie.Need-element-write-r
 element-write-r c = search needs
 
-write-requires : tie.Need-write-requires
-write-requires c κs = search needs
+with-register-requires : tie.Need-with-register-requires
+with-register-requires c κs = search needs
 
 enum-told : tie.Need-enum-told
 enum-told c = search needs
 
 returns : tie.Need-returns
-returns c = λ pc.
-    let a = c .before .before .before .before .before .before .before .before .before .before .before .before .before .before .args in
-    rw (load-control-long (a .register) (a .m) (state (a .r .now) (control pc (a .sr .now) (a .gbr .now) (a .vbr .now) (a .pr .now) (a .mach .now) (a .macl .now)) (a .memory .now)), met (c .before .before .before .before .before .before .before .before .before .before .before .load .ensures) (c .before .before .before .before .before .before .before .before .before .v .given .1), c .write .ensures pc, c .before .before .before .before .before .before .before .wrapping-add-u32 .ensures)
+returns c = let a = c .before .before .before .before .before .before .before .before .args in
+    rw (load-control-long (a .register) (a .m) (state (a .r .now) (a .control) (a .memory .now)), met (c .before .before .before .before .before .load .ensures) (c .before .before .before .v .given .1), c .with-register .ensures, c .before .wrapping-add-u32 .ensures)
 
 returns-2 : tie.Need-returns-2
-returns-2 c = λ pc.
-    let a = c .before .before .before .before .before .args in
-    rw (load-control-long (a .register) (a .m) (state (a .r .now) (control pc (a .sr .now) (a .gbr .now) (a .vbr .now) (a .pr .now) (a .mach .now) (a .macl .now)) (a .memory .now)), met (c .before .before .load .ensures) (c .enum-told .given .1))
+returns-2 c = let a = c .before .before .before .before .before .args in
+    rw (load-control-long (a .register) (a .m) (state (a .r .now) (a .control) (a .memory .now)), met (c .before .before .load .ensures) (c .enum-told .given .1))
 
 pub load-control-long-spec : {M : Type 1} → statement M
 load-control-long-spec =
@@ -62,7 +60,7 @@ load-control-long-spec =
     wrapping-add-u32-requires
     mul-r
     element-write-r
-    write-requires
+    with-register-requires
     enum-told
     returns
     returns-2)

@@ -1,8 +1,8 @@
--- `write` writes the register that is named, arm by arm.
+-- `with_register` sets the register that it is told: an arm for each.
 -- Assumes nothing.
 use borrow.Author.Needs.{needs}
-use Rattle.instructions.proofs.system.write.Statement.{statement}
-use Rattle.instructions.proofs.system.write.Tie as tie
+use Rattle.instructions.proofs.control.Control.with_register.Statement.{statement}
+use Rattle.instructions.proofs.control.Control.with_register.Tie as tie
 
 enum-told : tie.Need-enum-told
 enum-told c = search needs
@@ -23,25 +23,25 @@ enum-told-6 : tie.Need-enum-told-6
 enum-told-6 c = search needs
 
 returns : tie.Need-returns
-returns c = λ pc. rw (c .enum-told .given .1)
+returns c = rw (c .enum-told .given .1)
 
 returns-2 : tie.Need-returns-2
-returns-2 c = λ pc. rw (c .enum-told2 .given .1)
+returns-2 c = rw (c .enum-told2 .given .1)
 
 returns-3 : tie.Need-returns-3
-returns-3 c = λ pc. rw (c .enum-told3 .given .1)
+returns-3 c = rw (c .enum-told3 .given .1)
 
 returns-4 : tie.Need-returns-4
-returns-4 c = λ pc. rw (c .enum-told4 .given .1)
+returns-4 c = rw (c .enum-told4 .given .1)
 
 returns-5 : tie.Need-returns-5
-returns-5 c = λ pc. rw (c .enum-told5 .given .1)
+returns-5 c = rw (c .enum-told5 .given .1)
 
 returns-6 : tie.Need-returns-6
-returns-6 c = λ pc. rw (c .enum-told6 .given .1)
+returns-6 c = rw (c .enum-told6 .given .1)
 
-pub write-spec : {M : Type 1} → statement M
-write-spec =
+pub with-register-spec : {M : Type 1} → statement M
+with-register-spec =
     tie.close
     (tie.spec
     enum-told
