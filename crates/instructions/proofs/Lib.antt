@@ -5,5 +5,4 @@ pub mod Effects
 pub mod Families
 pub mod Kept
 pub mod Ranges
-pub mod Slots
 pub mod Status

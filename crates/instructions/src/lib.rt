@@ -1,17 +1,15 @@
-// What an instruction does to registers and memory, and where it leads.
+// What an instruction does to registers and memory, and where it leads: the definition of all 142, and a function for each shape.
 mod accesses;
-mod accumulate;
-mod byte_logic;
+pub mod accumulate;
+pub mod byte_logic;
 mod control;
-mod dispatch;
-mod flows;
-mod loads;
-mod registers;
+pub mod flows;
+pub mod loads;
+pub mod registers;
 mod results;
-mod returns;
-mod stores;
-mod system;
+pub mod returns;
+pub mod stores;
+pub mod system;
 
 pub use control::Control;
 pub use control::Flow;
-pub use dispatch::attempt;

@@ -1,21 +1,21 @@
 // One instruction: its effect on registers and memory, and where it leads. A function for each shape does the work.
-use crate::accumulate;
-use crate::byte_logic;
-use crate::control::Control;
-use crate::control::Flow;
-use crate::flows;
-use crate::loads;
-use crate::registers;
-use crate::returns;
-use crate::stores;
-use crate::system;
 use decoder::Meaning;
+use instructions::Control;
+use instructions::Flow;
+use instructions::accumulate;
+use instructions::byte_logic;
+use instructions::flows;
+use instructions::loads;
+use instructions::registers;
+use instructions::returns;
+use instructions::stores;
+use instructions::system;
 ghost use mathlib.Core.Path.{_≡_};
 ghost use mathlib.Core.Bool.{true};
 ghost use Prim.Native.Nat.{ℕ};
 ghost use Rattle.decoder.specs.Slot.{rewritesPc};
 ghost use Rattle.instructions.specs.Promises.{Attempts};
 ghost use Rattle.instructions.specs.State.{control};
 
 // Nothing stands between the decoder and this match, so that the compiler can lead each word of the code table straight to its shape.
 // The PC is only read: what settles a step moves it.

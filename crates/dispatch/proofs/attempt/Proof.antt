@@ -1,30 +1,30 @@
 -- `attempt` hands each family to its function; those that rewrite the PC go to `rewrite_pc`.
 -- Assumes nothing.
 use Rattle.instructions.specs.Execute.{execute}
 use mathlib.Core.Path.{refl}
 use Rattle.decoder.specs.declared.meaning.Meaning.the-variants.{Undefined}
 use Rattle.instructions.specs.Promises.{state}
 use Rattle.instructions.specs.State.{control}
 use Rattle.decoder.proofs.Rewriting.{rewrites}
-use Rattle.instructions.proofs.Slots.{anywhere, at-the-same-pc}
+use Rattle.dispatch.proofs.Slots.{anywhere, at-the-same-pc}
 use borrow.Author.Needs.{needs}
-use Rattle.instructions.proofs.dispatch.attempt.Statement.{statement}
-use Rattle.instructions.proofs.dispatch.attempt.Tie as tie
+use Rattle.dispatch.proofs.attempt.Statement.{statement}
+use Rattle.dispatch.proofs.attempt.Tie as tie
 use Rattle.instructions.proofs.accumulate.multiply_add.Reads as multiply-add-reads
 use Rattle.instructions.proofs.byte_logic.immediate_byte.Reads as immediate-byte-reads
 use Rattle.instructions.proofs.byte_logic.tas_b.Reads as tas-b-reads
-use Rattle.instructions.proofs.dispatch.rewrite_pc.Reads as rewrite-pc-reads
+use Rattle.dispatch.proofs.rewrite_pc.Reads as rewrite-pc-reads
 use Rattle.instructions.proofs.flows.no_operand.Reads as no-operand-reads
 use Rattle.instructions.proofs.loads.load_increment.Reads as load-increment-reads
 use Rattle.instructions.proofs.registers.compare_zero.Reads as compare-zero-reads
 use Rattle.instructions.proofs.registers.immediate_r0.Reads as immediate-r0-reads
 use Rattle.instructions.proofs.registers.one_register.Reads as one-register-reads
 use Rattle.instructions.proofs.registers.two_registers.Reads as two-registers-reads
 use Rattle.instructions.proofs.stores.store_decrement.Reads as store-decrement-reads
 use Rattle.instructions.proofs.system.load_control.Reads as load-control-reads
 use Rattle.instructions.proofs.system.load_control_long.Reads as load-control-long-reads
 use Rattle.instructions.proofs.system.store_control.Reads as store-control-reads
 use Rattle.instructions.proofs.system.store_control_long.Reads as store-control-long-reads
 
 enum-told : tie.Need-enum-told
 enum-told c = search needs

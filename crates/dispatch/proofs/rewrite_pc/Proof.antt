@@ -1,16 +1,16 @@
 -- `rewrite_pc` is illegal in a slot, and does what its families say elsewhere; no other family comes here.
 -- Assumes nothing.
 use Rattle.instructions.specs.Execute.{attempted, execute}
 use mathlib.Core.Path.{_≡_, sym, _∙_}
 use mathlib.Core.Bool.{true, false}
 use Rattle.instructions.specs.State.{control}
 use Rattle.decoder.proofs.Rewriting.{stays}
 use borrow.Author.Needs.{needs}
-use Rattle.instructions.proofs.dispatch.rewrite_pc.Statement.{statement}
-use Rattle.instructions.proofs.dispatch.rewrite_pc.Tie as tie
+use Rattle.dispatch.proofs.rewrite_pc.Statement.{statement}
+use Rattle.dispatch.proofs.rewrite_pc.Tie as tie
 use Rattle.instructions.proofs.flows.branch_if.Reads as branch-if-reads
 use Rattle.instructions.proofs.flows.branch_to.Reads as branch-to-reads
 use Rattle.instructions.proofs.returns.return_by.Reads as return-by-reads
 
 returns : tie.Need-returns
 unfolding attempted
