@@ -8,7 +8,7 @@ use lib.ListN.{replicate, getD}
 use Rattle.memory.specs.Access.{accessible, loaded, valueAt}
 use Rattle.decoder.specs.Code.{meaning, among}
 use Rattle.decoder.specs.Table.{table}
-use Rattle.instructions.specs.Execute.{execute}
+use Rattle.instructions.specs.Execute.{attempted, execute}
 use Rattle.machine.specs.declared.Mode.the-variants.{Running, Asleep}
 use Rattle.machine.specs.declared.Refusal.the-variants.{Accepted}
 use Rattle.machine.specs.Step.{step}
@@ -39,7 +39,7 @@ runs-to-sleep :
           };
       memory = small;
     }
-unfolding small image run step meaning among table execute accessible loaded valueAt
+unfolding small image run step meaning among table attempted execute accessible loaded valueAt
 runs-to-sleep = refl
 
 -- DIV0U, 32 times ROTCL R1 and DIV1 R3,R2, and ROTCL R1.
@@ -73,5 +73,5 @@ divisions :
     (0xffff_ffff ∷ 6 ∷ 0 ∷ 0x284 ∷ 66 ∷ []) ∷
     (0xffff_ffff ∷ 100 ∷ 0 ∷ 0x284 ∷ 66 ∷ []) ∷
     []
-unfolding divide outcome divider pairs image run step meaning among table execute accessible loaded valueAt
+unfolding divide outcome divider pairs image run step meaning among table attempted execute accessible loaded valueAt
 divisions = refl

@@ -1,5 +1,9 @@
+pub mod Calling
+pub mod Entries
 pub mod Examples
+pub mod Going
 pub mod Invariants
 pub mod Ranges
 pub mod Reasons
 pub mod Runs
+pub mod Settling

@@ -33,8 +33,11 @@ refusedMemory memory =
     Ragged
 
 -- 3: "else, SR given has a bit outside H'3F3 (step and run only)"
+abbrev pub refusedStatus : ℕ → Refusal
+refusedStatus sr = cond (eqb (masked sr) sr) Accepted Status
+
 abbrev pub refusedState : Refusal → ℕ → Refusal
-refusedState Accepted sr = cond (eqb (masked sr) sr) Accepted Status
+refusedState Accepted sr = refusedStatus sr
 refusedState Ragged sr = Ragged
 refusedState Size sr = Size
 refusedState Status sr = Status
@@ -54,16 +57,15 @@ pub record Called : Type 0 where
   pub answer : Answer
   pub memory : List ℕ
 
+abbrev pub called : Answer → List ℕ → Called
+called answer memory = record { answer = answer; memory = memory }
+
 -- "state as given, memory untouched, 0 steps"
 abbrev pub turnedAway : Refusal → Machine → List ℕ → Called
-turnedAway why m memory = record { answer = record { refusal = why; machine = m; steps = 0 }; memory = memory }
+turnedAway why m memory = called (record { refusal = why; machine = m; steps = 0 }) memory
 
 abbrev pub ran : Ran → Called
-ran x =
-    record {
-      answer = record { refusal = Accepted; machine = machineOf (x .after); steps = x .steps };
-      memory = x .after .state .memory;
-    }
+ran x = called (record { refusal = Accepted; machine = machineOf (x .after); steps = x .steps }) (x .after .state .memory)
 
 -- A call that does this, unless it is refused.
 abbrev pub calling : Refusal → Ran → Machine → List ℕ → Called
@@ -102,3 +104,13 @@ resetBy Status memory = record { refusal = Status; machine = blank; steps = 0 }
 
 abbrev pub resetCall : List ℕ → Answer
 resetCall memory = resetBy (refusedMemory memory) memory
+
+-- The promises of the public operations: answer and memory are those of the definition.
+abbrev pub Resets : List ℕ → Answer → Type 0
+Resets memory answer = answer ≡ resetCall memory
+
+abbrev pub Steps : Machine → List ℕ → Answer → List ℕ → Type 0
+Steps m memory answer after = called answer after ≡ stepCall m memory
+
+abbrev pub Runs : ℕ → Machine → List ℕ → Answer → List ℕ → Type 0
+Runs budget m memory answer after = called answer after ≡ runCall budget m memory

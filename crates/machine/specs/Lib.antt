@@ -2,3 +2,4 @@ pub mod Exceptions
 pub mod Step
 pub mod Run
 pub mod Calls
+pub mod Promises

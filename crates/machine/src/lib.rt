@@ -1,6 +1,7 @@
 // The machine: its registers and its mode (document 01, "State"), what a call answers, and the calls.
 mod calls;
 mod exceptions;
+mod run_loop;
 mod steps;
 
 pub use calls::reset;

@@ -5,7 +5,13 @@ use instructions::Flow;
 use memory::Loaded;
 use memory::Word;
 use std::num::wrapping_add_u32;
+ghost use mathlib.Core.Path.{_≡_};
+ghost use mathlib.Core.Bool.{false};
+ghost use Rattle.machine.specs.Exceptions as Exceptions;
+ghost use Rattle.machine.specs.Step as Step;
+ghost use Rattle.machine.specs.Promises.{Admits, Advances, Settles};
 
+// Of a machine that runs, in a slot or not.
 pub fn advance(
     mode: Mode,
     pc: &mut u32,
@@ -17,14 +23,18 @@ pub fn advance(
     macl: &mut u32,
     r: &mut [u32; 16],
     memory: &mut [u8],
-) -> Mode {
+) -> Mode
+    requires { ⌜ Step.halted mode ≡ false ⌝ }
+    ensures { λ m. ⌜ Advances mode (now (pc .entry)) (now (sr .entry)) (now (gbr .entry)) (now (vbr .entry)) (now (pr .entry)) (now (mach .entry)) (now (macl .entry)) (now (r .entry)) (now (memory .entry)) m (now (pc .exit)) (now (sr .exit)) (now (gbr .exit)) (now (vbr .exit)) (now (pr .exit)) (now (mach .exit)) (now (macl .exit)) (now (r .exit)) (now (memory .exit)) ⌝ }
+{
     let at = *pc;
     match Word::load(memory, at) {
         Loaded::Value(word) => {
             let meaning = decoder::decode(word as u16);
-            let flow = instructions::attempt(
+            let slot = in_slot(mode);
+            let flow = dispatch::attempt(
                 meaning,
-                in_slot(mode),
+                slot,
                 at,
                 sr,
                 gbr,
@@ -37,27 +47,11 @@ pub fn advance(
             );
             settle(flow, mode, pc, *sr, *vbr, r, memory)
         }
-        Loaded::Fault => settle_fetch(mode, pc, *sr, *vbr, r, memory),
+        Loaded::Fault => {
+            let saved = saved_pc(mode, at);
+            exceptions::enter(exceptions::ADDRESS_ERROR, saved, pc, *sr, *vbr, r, memory)
+        }
     }
-}
-
-fn settle_fetch(
-    mode: Mode,
-    pc: &mut u32,
-    sr: u32,
-    vbr: u32,
-    r: &mut [u32; 16],
-    memory: &mut [u8],
-) -> Mode {
-    exceptions::enter(
-        exceptions::ADDRESS_ERROR,
-        saved_pc(mode, *pc),
-        pc,
-        sr,
-        vbr,
-        r,
-        memory,
-    )
 }
 
 fn settle(
@@ -68,7 +62,10 @@ fn settle(
     vbr: u32,
     r: &mut [u32; 16],
     memory: &mut [u8],
-) -> Mode {
+) -> Mode
+    requires { ⌜ Admits mode flow ⌝ }
+    ensures { λ m. ⌜ Settles flow mode (now (pc .entry)) sr vbr (now (r .entry)) (now (memory .entry)) m (now (pc .exit)) (now (r .exit)) (now (memory .exit)) ⌝ }
+{
     let at = *pc;
     let next = saved_pc(mode, wrapping_add_u32(at, 2));
     match flow {
@@ -90,35 +87,41 @@ fn settle(
         }
         Flow::Trap(number) => exceptions::enter(number, next, pc, sr, vbr, r, memory),
         Flow::Fault => exceptions::enter(exceptions::ADDRESS_ERROR, next, pc, sr, vbr, r, memory),
-        Flow::Illegal => exceptions::enter(
-            illegal_number(mode),
-            saved_pc(mode, at),
-            pc,
-            sr,
-            vbr,
-            r,
-            memory,
-        ),
+        Flow::Illegal => {
+            let number = illegal_number(mode);
+            let saved = saved_pc(mode, at);
+            exceptions::enter(number, saved, pc, sr, vbr, r, memory)
+        }
     }
 }
 
-fn saved_pc(mode: Mode, other: u32) -> u32 {
+fn saved_pc(mode: Mode, other: u32) -> u32
+    ensures { λ a. ⌜ a ≡ Exceptions.savedPc mode other ⌝ }
+{
     match mode {
         Mode::Slot(target) => target,
-        _ => other,
+        Mode::Running => other,
+        Mode::Asleep => other,
+        Mode::Stopped(_) => other,
     }
 }
 
-fn in_slot(mode: Mode) -> bool {
+fn in_slot(mode: Mode) -> bool
+    ensures { λ b. ⌜ b ≡ Step.inSlot mode ⌝ }
+{
     match mode {
         Mode::Slot(_) => true,
-        _ => false,
+        Mode::Running => false,
+        Mode::Asleep => false,
+        Mode::Stopped(_) => false,
     }
 }
 
-fn illegal_number(mode: Mode) -> u32 {
-    match mode {
-        Mode::Slot(_) => exceptions::ILLEGAL_SLOT,
-        _ => exceptions::GENERAL_ILLEGAL,
+fn illegal_number(mode: Mode) -> u32
+    ensures { λ k. ⌜ k ≡ Step.illegalNumber mode ⌝ }
+{
+    if in_slot(mode) {
+        return exceptions::ILLEGAL_SLOT;
     }
+    exceptions::GENERAL_ILLEGAL
 }
