@@ -1,0 +1,41 @@
+-- What an accepted call says of the memory and of SR.
+-- Assumes nothing.
+use mathlib.Core.Path.{_≡_, refl, subst}
+use mathlib.Core.Bool.{Bool, true, false, _||_, cond}
+use mathlib.Core.List.{List}
+use Prim.Native.Nat.{ℕ, _%_, _^_, _<_}
+use native.Mathlib.Omega.{arith}
+use borrow.Author.Tests.{eqb-true, ltb-false}
+use lib.Dec.{eqb, ltb}
+use lib.ListN.{length}
+use Rattle.instructions.specs.State.{masked}
+use Rattle.machine.specs.declared.Refusal.{Refusal}
+use Rattle.machine.specs.declared.Refusal.the-variants.{Accepted, Ragged, Size, Status}
+use Rattle.machine.specs.Calls.{refusedMemory, refusedState}
+
+pub memory-accepted : (a : Refusal) (sr : ℕ) → refusedState a sr ≡ Accepted → a ≡ Accepted
+memory-accepted Accepted sr e = refl
+memory-accepted Ragged sr e = e
+memory-accepted Size sr e = e
+memory-accepted Status sr e = e
+
+pub mask-passed : (a : Refusal) (sr : ℕ) → refusedState a sr ≡ Accepted → masked sr ≡ sr
+mask-passed a sr e =
+    eqb-true (masked sr) sr
+    (go (eqb (masked sr) sr) (subst (λ (z : Refusal). refusedState z sr ≡ Accepted) (memory-accepted a sr e) e))
+  where
+    go : (b : Bool) → cond b Accepted Status ≡ Accepted → b ≡ true
+    go true f = refl
+    go false f = cc
+
+pub memory-bounded : (memory : List ℕ) → refusedMemory memory ≡ Accepted → length memory < 2 ^ 32
+memory-bounded memory e =
+    let n = length memory in
+    let bound = ltb-false 16777216 n (go (eqb (n % 4) 0) (ltb n 1024) (ltb 16777216 n) e) in
+    omega arith
+  where
+    go : (a b c : Bool) → cond a (cond (b || c) Size Accepted) Ragged ≡ Accepted → c ≡ false
+    go true true c f = cc
+    go true false true f = cc
+    go true false false f = refl
+    go false b c f = cc

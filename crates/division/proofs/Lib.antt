@@ -1,0 +1,14 @@
+pub mod Div1
+pub mod Steps
+pub mod Remainder
+pub mod Shifted
+pub mod LowHalf
+pub mod Results
+pub mod Status
+pub mod Registers
+pub mod Acceptance
+pub mod Instructions
+pub mod Through
+pub mod Walk
+pub mod Division
+pub mod Instance
