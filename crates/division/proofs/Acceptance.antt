@@ -1,7 +1,7 @@
 -- What an accepted call says of the memory and of SR.
 -- Assumes nothing.
 use mathlib.Core.Path.{_≡_, refl, subst}
-use mathlib.Core.Bool.{Bool, true, false, _||_, cond}
+use mathlib.Core.Bool.{Bool, true, false, _||_, cond, not}
 use mathlib.Core.List.{List}
 use Prim.Native.Nat.{ℕ, _%_, _^_, _<_}
 use native.Mathlib.Omega.{arith}
@@ -31,11 +31,11 @@ mask-passed a sr e =
 pub memory-bounded : (memory : List ℕ) → refusedMemory memory ≡ Accepted → length memory < 2 ^ 32
 memory-bounded memory e =
     let n = length memory in
-    let bound = ltb-false 16777216 n (go (eqb (n % 4) 0) (ltb n 1024) (ltb 16777216 n) e) in
+    let bound = ltb-false 16777216 n (go (not (eqb (n % 4) 0)) (ltb n 1024) (ltb 16777216 n) e) in
     omega arith
   where
-    go : (a b c : Bool) → cond a (cond (b || c) Size Accepted) Ragged ≡ Accepted → c ≡ false
-    go true true c f = cc
-    go true false true f = cc
-    go true false false f = refl
-    go false b c f = cc
+    go : (a b c : Bool) → cond a Ragged (cond (b || c) Size Accepted) ≡ Accepted → c ≡ false
+    go true b c f = cc
+    go false true c f = cc
+    go false false true f = cc
+    go false false false f = refl

@@ -2,7 +2,7 @@
 -- leaves a choice.
 -- Assumes nothing.
 use mathlib.Core.Path.{_≡_, refl, sym, _∙_, ap}
-use mathlib.Core.Bool.{Bool, true, false, _||_, cond}
+use mathlib.Core.Bool.{Bool, true, false, _||_, cond, not}
 use mathlib.Core.List.{List, [], _∷_}
 use Prim.Native.Nat.{ℕ, _+_, _%_, _≤_}
 use native.Mathlib.Omega.{arith}
@@ -51,10 +51,10 @@ reset-refused Ragged memory h = refl
 reset-refused Size memory h = refl
 reset-refused Status memory h = refl
 
-not-short : (whole short long : Bool) → cond whole (cond (short || long) Size Accepted) Ragged ≡ Accepted → short ≡ false
-not-short true true long e = cc
-not-short true false long e = refl
-not-short false short long e = cc
+not-short : (ragged short long : Bool) → cond ragged Ragged (cond (short || long) Size Accepted) ≡ Accepted → short ≡ false
+not-short true short long e = cc
+not-short false true long e = cc
+not-short false false long e = refl
 
 -- The two longs of a reset lie inside.
 pub accepted-opens :
@@ -62,7 +62,7 @@ pub accepted-opens :
 unfolding accessible
 accepted-opens memory e =
     let n = length memory in
-    let room : 1024 ≤ n = ltb-false n 1024 (not-short (eqb (n % 4) 0) (ltb n 1024) (ltb 16777216 n) e) in
+    let room : 1024 ≤ n = ltb-false n 1024 (not-short (not (eqb (n % 4) 0)) (ltb n 1024) (ltb 16777216 n) e) in
     let first : 0 + 4 ≤ n = omega (arith, room) in
     let second : 4 + 4 ≤ n = omega (arith, room) in
     (le-leb (0 + 4) n first, le-leb (4 + 4) n second)

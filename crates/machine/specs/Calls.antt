@@ -1,6 +1,6 @@
 -- What a call promises: document 01, "Refusals of a call", "Reset" and "Run".
 use mathlib.Core.Path.{_≡_}
-use mathlib.Core.Bool.{_||_, cond}
+use mathlib.Core.Bool.{Bool, _||_, cond, not}
 use mathlib.Core.List.{List}
 use Prim.Native.Nat.{ℕ, _%_}
 use lib.Dec.{eqb, ltb}
@@ -26,11 +26,14 @@ refusalNumber Size = 2
 refusalNumber Status = 3
 
 -- 1: "memory length is not a multiple of 4"; 2: "else, length below 1,024 or above 16,777,216"
+abbrev ragged : ℕ → Bool
+ragged n = not (eqb (n % 4) 0)
+
+abbrev missized : ℕ → Bool
+missized n = ltb n 1024 || ltb 16777216 n
+
 abbrev pub refusedMemory : List ℕ → Refusal
-refusedMemory memory =
-    cond (eqb (length memory % 4) 0)
-    (cond (ltb (length memory) 1024 || ltb 16777216 (length memory)) Size Accepted)
-    Ragged
+refusedMemory memory = cond (ragged (length memory)) Ragged (cond (missized (length memory)) Size Accepted)
 
 -- 3: "else, SR given has a bit outside H'3F3 (step and run only)"
 abbrev pub refusedStatus : ℕ → Refusal

@@ -99,7 +99,7 @@ fn saved_pc(mode: Mode, other: u32) -> u32
     ensures { λ a. ⌜ a ≡ Exceptions.savedPc mode other ⌝ }
 {
     match mode {
-        Mode::Slot(target) => target,
+        Mode::Slot(waiting) => waiting,
         Mode::Running => other,
         Mode::Asleep => other,
         Mode::Stopped(_) => other,
