@@ -12,7 +12,8 @@ use denote.Enum.Declared.{tagOf}
 use lib.Dec.{eqb, ltb}
 use lib.ListN.{length}
 use Rattle.memory.specs.Access.{accessible}
-use Rattle.machine.specs.Calls.{Called, Resets, Runs, Steps, blank, called, calling, over, refused, refusedMemory, refusedState, resetBy, runCall, stepCall}
+use Rattle.instructions.specs.State.{masked}
+use Rattle.machine.specs.Calls.{Called, Resets, Runs, Steps, blank, callNumber, called, calling, memoryNumber, over, refusalNumber, refused, refusedMemory, refusedState, refusedStatus, resetBy, runCall, stepCall}
 use Rattle.machine.specs.Exceptions.{Situation}
 use Rattle.machine.specs.Run.{Ran, oneMore, run, still, stepped}
 use Rattle.machine.specs.Step.{halted, step}
@@ -78,18 +79,83 @@ step-is-a-run-of-1 x = go (halted (x .mode)) _
 pub step-call-is-a-run-call-of-1 : (m : Machine) (memory : List ℕ) → runCall 1 m memory ≡ stepCall m memory
 step-call-is-a-run-call-of-1 m memory = rw (step-is-a-run-of-1 (over m memory))
 
+-- An answer of the definition has document 01's number.
+calling-refusal : (why : Refusal) (x : Ran) (m : Machine) (memory : List ℕ) → calling why x m memory .answer .refusal ≡ why
+calling-refusal Accepted x m memory = refl
+calling-refusal Ragged x m memory = refl
+calling-refusal Size x m memory = refl
+calling-refusal Status x m memory = refl
+
+reset-refusal : (why : Refusal) (memory : List ℕ) → resetBy why memory .refusal ≡ why
+reset-refusal Accepted memory = refl
+reset-refusal Ragged memory = refl
+reset-refusal Size memory = refl
+reset-refusal Status memory = refl
+
+state-number :
+    (ragged missized masks : Bool) (sr : ℕ) → refusedStatus sr ≡ cond masks Accepted Status →
+    refusalNumber (refusedState (cond ragged Ragged (cond missized Size Accepted)) sr) ≡
+    cond ragged 1 (cond missized 2 (cond masks 0 3))
+state-number true missized masks sr e = refl
+state-number false true masks sr e = refl
+state-number false false true sr e = rw e
+state-number false false false sr e = rw e
+
+memory-number :
+    (ragged missized : Bool) → refusalNumber (cond ragged Ragged (cond missized Size Accepted)) ≡ cond ragged 1 (cond missized 2 0)
+memory-number true missized = refl
+memory-number false true = refl
+memory-number false false = refl
+
+call-number : (m : Machine) (memory : List ℕ) → refusalNumber (refused m memory) ≡ callNumber m memory
+call-number m memory =
+    let n = length memory in
+    let sr = m .control .sr in
+    state-number (not (eqb (n % 4) 0)) (ltb n 1024 || ltb 16777216 n) (eqb (masked sr) sr) sr refl
+
+called-number :
+    (m : Machine) (memory : List ℕ) (x : Ran) (answer : Answer) (after : List ℕ) →
+    called answer after ≡ calling (refused m memory) x m memory → refusalNumber (answer .refusal) ≡ callNumber m memory
+called-number m memory x answer after e =
+    ap (λ (c : Called). refusalNumber (c .answer .refusal)) e
+    ∙ (rw (calling-refusal (refused m memory) x m memory) (call-number m memory))
+
+pub run-promise :
+    (budget : ℕ) (m : Machine) (memory : List ℕ) (answer : Answer) (after : List ℕ) →
+    called answer after ≡ runCall budget m memory → Runs budget m memory answer after
+run-promise budget m memory answer after e =
+    record { numbered = called-number m memory (run budget (over m memory)) answer after e; leaves = e }
+
+pub step-promise :
+    (m : Machine) (memory : List ℕ) (answer : Answer) (after : List ℕ) → called answer after ≡ stepCall m memory →
+    Steps m memory answer after
+step-promise m memory answer after e =
+    record { numbered = called-number m memory (stepped (over m memory)) answer after e; leaves = e }
+
+pub reset-promise : (memory : List ℕ) (answer : Answer) → answer ≡ resetBy (refusedMemory memory) memory → Resets memory answer
+reset-promise memory answer e =
+    let n = length memory in
+    let number : refusalNumber (answer .refusal) ≡ memoryNumber memory =
+    ap (λ (a : Answer). refusalNumber (a .refusal)) e
+    ∙ (rw (reset-refusal (refusedMemory memory) memory) (memory-number (not (eqb (n % 4) 0)) (ltb n 1024 || ltb 16777216 n))) in
+    record { numbered = number; answers = e }
+
 -- Any two results that a promise allows coincide.
 pub reset-determined : (memory : List ℕ) (a b : Answer) → Resets memory a → Resets memory b → a ≡ b
-reset-determined memory a b p q = p ∙ sym q
+reset-determined memory a b p q = p .answers ∙ sym (q .answers)
+
+one-result :
+    {promised : Called} (a b : Answer) (after other : List ℕ) → called a after ≡ promised → called b other ≡ promised →
+    (a ≡ b) × (after ≡ other)
+one-result a b after other p q =
+    (ap (λ (c : Called). c .answer) (p ∙ sym q), ap (λ (c : Called). c .memory) (p ∙ sym q))
 
 pub step-determined :
     (m : Machine) (memory : List ℕ) (a b : Answer) (after other : List ℕ) → Steps m memory a after → Steps m memory b other →
     (a ≡ b) × (after ≡ other)
-step-determined m memory a b after other p q =
-    (ap (λ (c : Called). c .answer) (p ∙ sym q), ap (λ (c : Called). c .memory) (p ∙ sym q))
+step-determined m memory a b after other p q = one-result a b after other (p .leaves) (q .leaves)
 
 pub run-determined :
     (budget : ℕ) (m : Machine) (memory : List ℕ) (a b : Answer) (after other : List ℕ) → Runs budget m memory a after →
     Runs budget m memory b other → (a ≡ b) × (after ≡ other)
-run-determined budget m memory a b after other p q =
-    (ap (λ (c : Called). c .answer) (p ∙ sym q), ap (λ (c : Called). c .memory) (p ∙ sym q))
+run-determined budget m memory a b after other p q = one-result a b after other (p .leaves) (q .leaves)

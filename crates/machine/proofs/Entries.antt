@@ -8,7 +8,7 @@ use Rattle.memory.specs.Access.{accessible, loaded, valueAt}
 use Rattle.memory.specs.declared.Loaded.the-variants as loads
 use Rattle.instructions.specs.Shapes.{steppedBack}
 use Rattle.instructions.specs.State.{State}
-use Rattle.machine.specs.Exceptions.{at, enter, entered, vector}
+use Rattle.machine.specs.Exceptions.{Situation, at, enter, entered, stopNumber, vector}
 use Rattle.machine.specs.declared.Mode.the-variants.{Stopped}
 use Rattle.machine.specs.declared.Stop.the-variants.{Push, Vector}
 
@@ -39,6 +39,25 @@ module _ (number saved : ℕ) (s : State) where
       enter number saved s ≡ entered number saved s
   unfolding enter
   enters a b e = rw (a, b, e)
+
+ways :
+    (pushes vector : Bool) (a b c : Situation) (k m n : ℕ) → stopNumber (a .mode) ≡ k → stopNumber (b .mode) ≡ m → stopNumber (c .mode) ≡ n →
+    stopNumber (cond pushes (cond vector a b) c .mode) ≡ cond pushes (cond vector k m) n
+ways true true a b c k m n p q r = p
+ways true false a b c k m n p q r = q
+ways false vector a b c k m n p q r = r
+
+-- The stop reasons by document 01's numbers: 1 if a push fails, else 2 if the vector does, else none.
+pub entry-numbered :
+    (number saved : ℕ) (s : State) →
+    stopNumber (enter number saved s .mode) ≡
+    cond (accessible 4 (s .memory) (steppedBack 4 15 s) && accessible 4 (s .memory) (steppedBack 8 15 s))
+    (cond (accessible 4 (s .memory) (vector number s)) 0 2)
+    1
+unfolding enter
+entry-numbered number saved s =
+    ways (accessible 4 (s .memory) (steppedBack 4 15 s) && accessible 4 (s .memory) (steppedBack 8 15 s))
+    (accessible 4 (s .memory) (vector number s)) (entered number saved s) (at (Stopped Vector) s) (at (Stopped Push) s) 0 2 1 refl refl refl
 
 given-value : (test : Bool) (n v : ℕ) → test ≡ true → cond test (loads.Value n) loads.Fault ≡ loads.Value v → v ≡ n
 given-value true n v can given = cc

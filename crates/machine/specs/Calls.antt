@@ -108,12 +108,23 @@ resetBy Status memory = record { refusal = Status; machine = blank; steps = 0 }
 abbrev pub resetCall : List ℕ → Answer
 resetCall memory = resetBy (refusedMemory memory) memory
 
--- The promises of the public operations: answer and memory are those of the definition.
-abbrev pub Resets : List ℕ → Answer → Type 0
-Resets memory answer = answer ≡ resetCall memory
+-- The number that document 01 gives a call's refusal, and 0 where it has none.
+abbrev pub memoryNumber : List ℕ → ℕ
+memoryNumber memory = cond (ragged (length memory)) 1 (cond (missized (length memory)) 2 0)
 
-abbrev pub Steps : Machine → List ℕ → Answer → List ℕ → Type 0
-Steps m memory answer after = called answer after ≡ stepCall m memory
+abbrev pub callNumber : Machine → List ℕ → ℕ
+callNumber m memory =
+    cond (ragged (length memory)) 1 (cond (missized (length memory)) 2 (cond (eqb (masked (m .control .sr)) (m .control .sr)) 0 3))
 
-abbrev pub Runs : ℕ → Machine → List ℕ → Answer → List ℕ → Type 0
-Runs budget m memory answer after = called answer after ≡ runCall budget m memory
+-- The promises of the public operations: document 01's number, and answer and memory those of the definition.
+pub record Resets (memory : List ℕ) (answer : Answer) : Type 0 where
+  pub numbered : refusalNumber (answer .refusal) ≡ memoryNumber memory
+  pub answers : answer ≡ resetCall memory
+
+pub record Steps (m : Machine) (memory : List ℕ) (answer : Answer) (after : List ℕ) : Type 0 where
+  pub numbered : refusalNumber (answer .refusal) ≡ callNumber m memory
+  pub leaves : called answer after ≡ stepCall m memory
+
+pub record Runs (budget : ℕ) (m : Machine) (memory : List ℕ) (answer : Answer) (after : List ℕ) : Type 0 where
+  pub numbered : refusalNumber (answer .refusal) ≡ callNumber m memory
+  pub leaves : called answer after ≡ runCall budget m memory

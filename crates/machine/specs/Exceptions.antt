@@ -24,6 +24,13 @@ reasonNumber Push = 1
 reasonNumber Vector = 2
 reasonNumber Branch = 3
 
+-- The reason's number of a stopped machine, and 0 of any other.
+abbrev pub stopNumber : Mode → ℕ
+stopNumber Running = 0
+stopNumber (Slot target) = 0
+stopNumber Asleep = 0
+stopNumber (Stopped reason) = reasonNumber reason
+
 -- "Saved PC: in a slot, always the target."
 abbrev pub savedPc : Mode → ℕ → ℕ
 savedPc (Slot target) other = target

@@ -2,7 +2,7 @@
 -- Assumes nothing.
 use mathlib.Core.Path.{sym, _∙_}
 use Rattle.instructions.proofs.Answers.{met}
-use Rattle.machine.proofs.Calling.{reset-refused}
+use Rattle.machine.proofs.Calling.{reset-promise, reset-refused}
 use borrow.Author.Needs.{needs}
 use Rattle.machine.proofs.calls.reset.Statement.{statement}
 use Rattle.machine.proofs.calls.reset.Tie as tie
@@ -21,10 +21,10 @@ blank-requires : tie.Need-blank-requires
 blank-requires c κs = search needs
 
 returns : tie.Need-returns
-returns c = rw (met (c .before .before .before .refused-memory .ensures) (c .before .enum-told .given .1), c .before .enum-told .given .1, c .started .ensures)
+returns c = reset-promise _ _ (rw (met (c .before .before .before .refused-memory .ensures) (c .before .enum-told .given .1), c .before .enum-told .given .1, c .started .ensures))
 
 returns-2 : tie.Need-returns-2
-returns-2 c = rw (c .blank .ensures, sym (c .before .before .refused-memory .ensures)) (reset-refused _ _ (c .before .match .keys2))
+returns-2 c = reset-promise _ _ (rw (c .blank .ensures, sym (c .before .before .refused-memory .ensures)) (reset-refused _ _ (c .before .match .keys2)))
 
 pub reset-spec : {M : Type 1} → statement M
 reset-spec =

@@ -4,7 +4,7 @@ use mathlib.Core.Path.{sym, _∙_}
 use Rattle.instructions.proofs.Answers.{met}
 use Rattle.machine.specs.Calls.{over}
 use Rattle.machine.specs.Run.{run}
-use Rattle.machine.proofs.Calling.{call-refused}
+use Rattle.machine.proofs.Calling.{call-refused, run-promise}
 use borrow.Author.Needs.{needs}
 use Rattle.machine.proofs.calls.run.Statement.{statement}
 use Rattle.machine.proofs.calls.run.Tie as tie
@@ -23,14 +23,14 @@ same-length : tie.Need-same-length
 same-length c = search needs
 
 returns : tie.Need-returns
-returns c = rw (met (c .before .before .before .before .before .before .refused .ensures) (c .before .before .before .before .enum-told .given .1)) (c .before .before .run-accepted .ensures)
+returns c = run-promise _ _ _ _ _ (rw (met (c .before .before .before .before .before .before .refused .ensures) (c .before .before .before .before .enum-told .given .1)) (c .before .before .run-accepted .ensures))
 
 same-length-2 : tie.Need-same-length-2
 same-length-2 c = search needs
 
 returns-2 : tie.Need-returns-2
 returns-2 c = let a = c .before .before .before .before .args in
-    rw (sym (c .before .refused .ensures)) (call-refused (c .before .refused .result) (run (a .budget) (over (a .machine) (a .memory .now))) (a .machine) (a .memory .now) (c .match .keys2))
+    run-promise _ _ _ _ _ (rw (sym (c .before .refused .ensures)) (call-refused (c .before .refused .result) (run (a .budget) (over (a .machine) (a .memory .now))) (a .machine) (a .memory .now) (c .match .keys2)))
 
 pub run-spec : {M : Type 1} → statement M
 run-spec =
