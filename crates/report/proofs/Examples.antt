@@ -1,0 +1,33 @@
+-- Document 01's example of the runner, computed: the image's whole output, and the line of each refused length that it names.
+-- Assumes nothing.
+use mathlib.Core.Path.{_≡_, refl}
+use mathlib.Core.List.{List, [], _∷_, map, _++_}
+use Prim.Native.Nat.{ℕ}
+use lib.ListN.{replicate}
+use Rattle.decoder.specs.Code.{among, meaning}
+use Rattle.decoder.specs.Table.{table}
+use Rattle.memory.specs.Access.{accessible, loaded, valueAt}
+use Rattle.instructions.specs.Execute.{attempted, execute}
+use Rattle.machine.specs.Run.{run}
+use Rattle.machine.specs.Step.{step}
+use Rattle.report.specs.Report.{report}
+use Rattle.report.specs.Text.{ascii, lineFeed}
+
+-- "For 1,024 bytes, zero but for 00 00 02 00 00 00 04 00 at 0 and E0 05 00 1B at H'200"
+abbrev image : List ℕ
+image =
+    (0 ∷ 0 ∷ 2 ∷ 0 ∷ 0 ∷ 0 ∷ 4 ∷ 0 ∷ []) ++ replicate 504 0 ++ (0xe0 ∷ 5 ∷ 0 ∷ 0x1b ∷ []) ++ replicate 508 0
+
+pub whole-output :
+    report image ≡
+    ascii "state asleep steps 2" ++ lineFeed ++ ascii "pc 00000204 sr 000000f0" ++ lineFeed ++ ascii "r0 00000005" ++ lineFeed ++
+    ascii "r15 00000400" ++ lineFeed
+unfolding report run step meaning among table attempted execute accessible loaded valueAt
+whole-output = refl
+
+-- "Length 1,022 is 1; length 0 and 1,020 are 2"
+pub refused-lengths :
+    map (λ (n : ℕ). report (replicate n 0)) (1022 ∷ 0 ∷ 1020 ∷ []) ≡
+    (ascii "refused 1" ++ lineFeed) ∷ (ascii "refused 2" ++ lineFeed) ∷ (ascii "refused 2" ++ lineFeed) ∷ []
+unfolding report
+refused-lengths = refl
