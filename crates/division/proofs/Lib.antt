@@ -12,3 +12,4 @@ pub mod Through
 pub mod Walk
 pub mod Division
 pub mod Instance
+pub mod Promised

@@ -13,7 +13,7 @@ use Rattle.machine.specs.declared.Refusal.{Refusal}
 use Rattle.machine.specs.declared.Refusal.the-variants.{Accepted}
 use Rattle.machine.specs.Exceptions.{Situation}
 use Rattle.machine.specs.Run.{Ran, still, run}
-use Rattle.machine.specs.Calls.{refused, over, runCall}
+use Rattle.machine.specs.Calls.{Called, Runs, refused, over, runCall}
 
 -- DIV0U, ROTCL Rn and DIV1 Rm,Rn: document 000, sections 6.18, 6.46 and 6.19.
 abbrev pub div0u : ℕ
@@ -171,5 +171,33 @@ CallsDivide =
     (low high divisor : ℕ) (m : Machine) (memory : List ℕ) → Premises low high divisor m memory → (budgets : List ℕ) →
     sum budgets ≡ 66 →
     let end = calls budgets m memory in
+    (end .refusals ≡ replicate (length budgets) Accepted) ×
+    Conclusion low high divisor (over m memory) (over (end .machine) (end .memory)) (end .steps)
+
+-- Replies that meet the promise of the public operation `run`, one for each budget, each call made with what the one before it left.
+abbrev pub Meets : List ℕ → Machine → List ℕ → List Called → Type 0
+Meets [] m memory [] = Unit {0}
+Meets [] m memory (reply ∷ replies) = ⊥
+Meets (budget ∷ rest) m memory [] = ⊥
+Meets (budget ∷ rest) m memory (reply ∷ replies) =
+    Runs budget m memory (reply .answer) (reply .memory) × Meets rest (reply .answer .machine) (reply .memory) replies
+
+abbrev pub gathered : Machine → List ℕ → List Called → Answers
+gathered m memory [] = record { refusals = []; machine = m; memory = memory; steps = 0 }
+gathered m memory (reply ∷ replies) =
+    let later = gathered (reply .answer .machine) (reply .memory) replies in
+    record {
+      refusals = reply .answer .refusal ∷ later .refusals;
+      machine = later .machine;
+      memory = later .memory;
+      steps = reply .answer .steps + later .steps;
+    }
+
+-- The division theorem, of the public operation: whatever replies its promise allows.
+abbrev pub PromisesDivide : Type 0
+PromisesDivide =
+    (low high divisor : ℕ) (m : Machine) (memory : List ℕ) → Premises low high divisor m memory → (budgets : List ℕ) →
+    sum budgets ≡ 66 → (replies : List Called) → Meets budgets m memory replies →
+    let end = gathered m memory replies in
     (end .refusals ≡ replicate (length budgets) Accepted) ×
     Conclusion low high divisor (over m memory) (over (end .machine) (end .memory)) (end .steps)
