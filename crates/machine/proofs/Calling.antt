@@ -12,8 +12,7 @@ use denote.Enum.Declared.{tagOf}
 use lib.Dec.{eqb, ltb}
 use lib.ListN.{length}
 use Rattle.memory.specs.Access.{accessible}
-use Rattle.instructions.specs.State.{masked}
-use Rattle.machine.specs.Calls.{Called, Resets, Runs, Steps, blank, callNumber, called, calling, memoryNumber, over, refusalNumber, refused, refusedMemory, refusedState, refusedStatus, resetBy, runCall, stepCall}
+use Rattle.machine.specs.Calls.{Called, Resets, Runs, Steps, blank, called, calling, over, refusalNumber, refused, refusedMemory, refusedState, resetBy, runCall, stepCall}
 use Rattle.machine.specs.Exceptions.{Situation}
 use Rattle.machine.specs.Run.{Ran, oneMore, run, still, stepped}
 use Rattle.machine.specs.Step.{halted, step}
@@ -92,33 +91,12 @@ reset-refusal Ragged memory = refl
 reset-refusal Size memory = refl
 reset-refusal Status memory = refl
 
-state-number :
-    (ragged missized masks : Bool) (sr : ℕ) → refusedStatus sr ≡ cond masks Accepted Status →
-    refusalNumber (refusedState (cond ragged Ragged (cond missized Size Accepted)) sr) ≡
-    cond ragged 1 (cond missized 2 (cond masks 0 3))
-state-number true missized masks sr e = refl
-state-number false true masks sr e = refl
-state-number false false true sr e = rw e
-state-number false false false sr e = rw e
-
-memory-number :
-    (ragged missized : Bool) → refusalNumber (cond ragged Ragged (cond missized Size Accepted)) ≡ cond ragged 1 (cond missized 2 0)
-memory-number true missized = refl
-memory-number false true = refl
-memory-number false false = refl
-
-call-number : (m : Machine) (memory : List ℕ) → refusalNumber (refused m memory) ≡ callNumber m memory
-call-number m memory =
-    let n = length memory in
-    let sr = m .control .sr in
-    state-number (not (eqb (n % 4) 0)) (ltb n 1024 || ltb 16777216 n) (eqb (masked sr) sr) sr refl
-
 called-number :
     (m : Machine) (memory : List ℕ) (x : Ran) (answer : Answer) (after : List ℕ) →
-    called answer after ≡ calling (refused m memory) x m memory → refusalNumber (answer .refusal) ≡ callNumber m memory
+    called answer after ≡ calling (refused m memory) x m memory →
+    refusalNumber (answer .refusal) ≡ refusalNumber (refused m memory)
 called-number m memory x answer after e =
-    ap (λ (c : Called). refusalNumber (c .answer .refusal)) e
-    ∙ (rw (calling-refusal (refused m memory) x m memory) (call-number m memory))
+    ap (λ (c : Called). refusalNumber (c .answer .refusal)) e ∙ ap refusalNumber (calling-refusal (refused m memory) x m memory)
 
 pub run-promise :
     (budget : ℕ) (m : Machine) (memory : List ℕ) (answer : Answer) (after : List ℕ) →
@@ -134,11 +112,10 @@ step-promise m memory answer after e =
 
 pub reset-promise : (memory : List ℕ) (answer : Answer) → answer ≡ resetBy (refusedMemory memory) memory → Resets memory answer
 reset-promise memory answer e =
-    let n = length memory in
-    let number : refusalNumber (answer .refusal) ≡ memoryNumber memory =
-    ap (λ (a : Answer). refusalNumber (a .refusal)) e
-    ∙ (rw (reset-refusal (refusedMemory memory) memory) (memory-number (not (eqb (n % 4) 0)) (ltb n 1024 || ltb 16777216 n))) in
-    record { numbered = number; answers = e }
+    record {
+      numbered = ap (λ (a : Answer). refusalNumber (a .refusal)) e ∙ ap refusalNumber (reset-refusal (refusedMemory memory) memory);
+      answers = e;
+    }
 
 -- Any two results that a promise allows coincide.
 pub reset-determined : (memory : List ℕ) (a b : Answer) → Resets memory a → Resets memory b → a ≡ b

@@ -108,23 +108,15 @@ resetBy Status memory = record { refusal = Status; machine = blank; steps = 0 }
 abbrev pub resetCall : List ℕ → Answer
 resetCall memory = resetBy (refusedMemory memory) memory
 
--- The number that document 01 gives a call's refusal, and 0 where it has none.
-abbrev pub memoryNumber : List ℕ → ℕ
-memoryNumber memory = cond (ragged (length memory)) 1 (cond (missized (length memory)) 2 0)
-
-abbrev pub callNumber : Machine → List ℕ → ℕ
-callNumber m memory =
-    cond (ragged (length memory)) 1 (cond (missized (length memory)) 2 (cond (eqb (masked (m .control .sr)) (m .control .sr)) 0 3))
-
 -- The promises of the public operations: document 01's number, and answer and memory those of the definition.
 pub record Resets (memory : List ℕ) (answer : Answer) : Type 0 where
-  pub numbered : refusalNumber (answer .refusal) ≡ memoryNumber memory
+  pub numbered : refusalNumber (answer .refusal) ≡ refusalNumber (refusedMemory memory)
   pub answers : answer ≡ resetCall memory
 
 pub record Steps (m : Machine) (memory : List ℕ) (answer : Answer) (after : List ℕ) : Type 0 where
-  pub numbered : refusalNumber (answer .refusal) ≡ callNumber m memory
+  pub numbered : refusalNumber (answer .refusal) ≡ refusalNumber (refused m memory)
   pub leaves : called answer after ≡ stepCall m memory
 
 pub record Runs (budget : ℕ) (m : Machine) (memory : List ℕ) (answer : Answer) (after : List ℕ) : Type 0 where
-  pub numbered : refusalNumber (answer .refusal) ≡ callNumber m memory
+  pub numbered : refusalNumber (answer .refusal) ≡ refusalNumber (refused m memory)
   pub leaves : called answer after ≡ runCall budget m memory

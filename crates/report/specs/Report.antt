@@ -4,8 +4,8 @@ use mathlib.Core.List.{List, [], _∷_, _++_}
 use Prim.Native.Nat.{ℕ}
 use Prim.Native.String.{String}
 use lib.Dec.{eqb, ltb}
-use lib.ListN.{getD, length}
-use Rattle.machine.specs.Calls.{Called, refusalNumber, resetCall, runCall}
+use lib.ListN.{length}
+use Rattle.machine.specs.Calls.{refusalNumber, resetCall, runCall}
 use Rattle.machine.specs.Exceptions.{reasonNumber}
 use Rattle.machine.specs.declared.Answer.{Answer}
 use Rattle.machine.specs.declared.Machine.{Machine}
