@@ -2,6 +2,7 @@
 
 A line is an instruction, `label:`, `.word VALUE`, `.long VALUE`, `.org ADDRESS`, `.align`, or
 `LOAD VALUE,Rn`, which is MOV.L @(disp,PC),Rn from a pool placed after the last line or at `.pool`.
+The lines from `.rept N` to `.endr` stand N times. A number may be hexadecimal as H'1F or 0x1F.
 Displacements are written before scaling, as the manual does; a branch names its label.
 """
 
@@ -66,9 +67,18 @@ def value(text, labels=None):
         if part in "+-":
             sign = -1 if part == "-" else 1
         else:
-            total += sign * (labels[part] if labels and part in labels else int(part, 0))
+            total += sign * (labels[part] if labels and part in labels else literal(part))
             sign = 1
     return total
+
+
+def literal(text):
+    return int(text[2:], 16) if text.startswith("H'") else int(text, 0)
+
+
+def repeat(text):
+    """The text with what stands from each `.rept N` to its `.endr` written N times."""
+    return re.sub(r"\.rept (\d+).*\n((?s:.*?))\.endr", lambda found: found[2] * int(found[1]), text)
 
 
 class Assembly:
@@ -77,7 +87,7 @@ class Assembly:
     def __init__(self, start, text):
         self.labels, self.placed, self.pool = {}, [], {}
         self.at = start
-        for line in text.splitlines():
+        for line in repeat(text).splitlines():
             line = line.split(";")[0].strip()
             if line:
                 self.lay(line)
