@@ -36,5 +36,5 @@ def reports(output):
 
 def difference(expected, found):
     """The lines in which two reports differ, indented."""
-    lines = difflib.unified_diff(expected.splitlines(), found.splitlines(), "reference", "found", lineterm="", n=0)
+    lines = difflib.unified_diff(expected.splitlines(), found.splitlines(), "expected", "found", lineterm="", n=0)
     return "\n".join(f"  {line}" for line in lines)
