@@ -10,8 +10,21 @@ use Rattle.memory.specs.Access.{accessible, loaded, valueAt}
 use Rattle.instructions.specs.Execute.{attempted, execute}
 use Rattle.machine.specs.Run.{run}
 use Rattle.machine.specs.Step.{step}
-use Rattle.report.specs.Report.{report}
-use Rattle.report.specs.Text.{ascii, lineFeed}
+use Rattle.report.specs.Report.{
+  answerText,
+  controlLines,
+  generalLines,
+  machineText,
+  modeText,
+  outcome,
+  pcLine,
+  registerLine,
+  report,
+  stateLine,
+  targetLine,
+  valueText,
+}
+use Rattle.text.specs.Text.{ascii, decimal, hex, lineFeed}
 
 -- "For 1,024 bytes, zero but for 00 00 02 00 00 00 04 00 at 0 and E0 05 00 1B at H'200"
 abbrev image : List ℕ
@@ -22,12 +35,12 @@ pub whole-output :
     report image ≡
     ascii "state asleep steps 2" ++ lineFeed ++ ascii "pc 00000204 sr 000000f0" ++ lineFeed ++ ascii "r0 00000005" ++ lineFeed ++
     ascii "r15 00000400" ++ lineFeed
-unfolding report run step meaning among table attempted execute accessible loaded valueAt
+unfolding outcome run step meaning among table attempted execute accessible loaded valueAt answerText machineText stateLine modeText pcLine targetLine generalLines controlLines registerLine valueText hex decimal
 whole-output = refl
 
 -- "Length 1,022 is 1; length 0 and 1,020 are 2"
 pub refused-lengths :
     map (λ (n : ℕ). report (replicate n 0)) (1022 ∷ 0 ∷ 1020 ∷ []) ≡
     (ascii "refused 1" ++ lineFeed) ∷ (ascii "refused 2" ++ lineFeed) ∷ (ascii "refused 2" ++ lineFeed) ∷ []
-unfolding report
+unfolding outcome answerText decimal
 refused-lengths = refl

@@ -1,1 +1,4 @@
+pub mod Bounds
 pub mod Examples
+pub mod Reporting
+pub mod Unwritten

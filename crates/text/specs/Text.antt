@@ -18,15 +18,16 @@ ascii s = letters s 0 (len s)
 abbrev pub lineFeed : List ℕ
 lineFeed = 10 ∷ []
 
-abbrev digit : ℕ → ℕ
+-- The digit's character: 0 to 9, then a to f.
+abbrev pub digit : ℕ → ℕ
 digit d = cond (ltb d 10) (48 + d) (87 + d)
 
 -- The last k hexadecimal digits, lower-case.
-abbrev pub hex : ℕ → ℕ → List ℕ
+unfoldable pub hex : ℕ → ℕ → List ℕ
 hex zero n = []
 hex (suc k) n = hex k (n / 16) ++ (digit (n % 16) ∷ [])
 
 -- Decimal without leading zeros, of at most k digits.
-abbrev pub decimal : ℕ → ℕ → List ℕ
+unfoldable pub decimal : ℕ → ℕ → List ℕ
 decimal zero n = []
 decimal (suc k) n = cond (ltb n 10) (digit n ∷ []) (decimal k (n / 10) ++ (digit (n % 10) ∷ []))

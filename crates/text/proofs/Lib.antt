@@ -1,0 +1,3 @@
+pub mod Figures
+pub mod Filling
+pub mod Writes
