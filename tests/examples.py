@@ -24,7 +24,7 @@ def quotient(dividend, divisor):
 
 
 def chapter_4():
-    # 480: the word is H'00001234, added to R0 = 1. 498: 1 + 2, then TRGET. 518: TRGET0 and TRGET1 are H'1006 and H'1008; R0 = 1 less 1 is 0.
+    # 480: the word is H'00001234, added to R0 = 1. 498: 1 + 2, then TRGET. 518: TRGET0 is H'1006, TRGET1 H'1008. 521: 1 - 1 is 0.
     print("4.1.3 MOV.W @(disp,PC),R1; ADD R1,R0: R1 = 00001234, R0 = 00001235")
     print("4.1.5 BRA TRGET; ADD R1,R0: R0 = 00000003, PC = 00001008")
     print("4.1.7 CMP/GE R1,R0 with R0 = R1; BT TRGET0; BF TRGET1: T = 1, PC = 00001008")

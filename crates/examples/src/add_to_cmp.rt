@@ -22,7 +22,7 @@ pub const TEXTS: [u8; 1068] = *b"\
 ";
 
 pub const EXAMPLES: [u64; 202] = [
-    // 6.3 ADDC, the low half of R0:R1 + R2:R3.
+    // 6.3 ADDC, line 1508: the low half of R0:R1 + R2:R3.
     SR + 1,
     R1 + 0x00000001,
     R3 + 0xffffffff,
@@ -32,7 +32,7 @@ pub const EXAMPLES: [u64; 202] = [
     SHOW_T,
     SHOW + R1,
     END,
-    // 6.3 ADDC, both halves.
+    // 6.3 ADDC, line 1510: both halves.
     SR + 1,
     R1 + 0x00000001,
     R3 + 0xffffffff,
@@ -43,7 +43,7 @@ pub const EXAMPLES: [u64; 202] = [
     SHOW_T,
     SHOW + R0,
     END,
-    // 6.5 AND.B
+    // 6.5 AND.B, line 1603.
     GBR + 0x3000,
     R0 + 4,
     0x3004_a5000000,
@@ -51,7 +51,7 @@ pub const EXAMPLES: [u64; 202] = [
     RUN + 100,
     SHOW_BYTE + 0x3004_00000000,
     END,
-    // 6.6 BF
+    // 6.6 BF, line 1634.
     SR + 1,
     0x0008, // CLRT
     0x8903, // BT TRGET_T
@@ -64,7 +64,7 @@ pub const EXAMPLES: [u64; 202] = [
     SHOW + PC,
     SHOW_STEPS,
     END,
-    // 6.7 BF/S
+    // 6.7 BF/S, line 1678.
     SR + 1,
     R0 + 1,
     R1 + 2,
@@ -81,7 +81,7 @@ pub const EXAMPLES: [u64; 202] = [
     SHOW + PC,
     SHOW_STEPS,
     END,
-    // 6.8 BRA
+    // 6.8 BRA, line 1720.
     R0 + 1,
     R1 + 2,
     0xa001, // BRA TRGET, H'1006
@@ -92,7 +92,7 @@ pub const EXAMPLES: [u64; 202] = [
     SHOW + PC,
     SHOW_STEPS,
     END,
-    // 6.9 BRAF. The assembler puts the displacement behind the program, at H'100C.
+    // 6.9 BRAF, line 1756, which prints BSRF_PC for BRAF_PC. The assembler puts the displacement behind the program.
     R1 + 1,
     0xd002, // MOV.L #(TRGET-BRAF_PC),R0
     0x0023, // BRAF R0
@@ -108,7 +108,7 @@ pub const EXAMPLES: [u64; 202] = [
     SHOW + PC,
     SHOW_STEPS,
     END,
-    // 6.10 BSR
+    // 6.10 BSR, line 1796.
     R1 + 5,
     R2 + 0x22,
     R3 + 0x33,
@@ -128,7 +128,7 @@ pub const EXAMPLES: [u64; 202] = [
     SHOW + PC,
     SHOW_STEPS,
     END,
-    // 6.11 BSRF. The displacement is at H'1010.
+    // 6.11 BSRF, line 1835. The displacement is again behind the program.
     R1 + 5,
     R2 + 0x22,
     R3 + 0x33,
@@ -151,7 +151,7 @@ pub const EXAMPLES: [u64; 202] = [
     SHOW + PC,
     SHOW_STEPS,
     END,
-    // 6.12 BT
+    // 6.12 BT, line 1877.
     0x0018, // SETT
     0x8b03, // BF TRGET_F
     0x8901, // BT TRGET_T
@@ -163,7 +163,7 @@ pub const EXAMPLES: [u64; 202] = [
     SHOW + PC,
     SHOW_STEPS,
     END,
-    // 6.13 BT/S
+    // 6.13 BT/S, line 1917.
     R0 + 1,
     R1 + 2,
     0x0018, // SETT
@@ -179,7 +179,7 @@ pub const EXAMPLES: [u64; 202] = [
     SHOW + PC,
     SHOW_STEPS,
     END,
-    // 6.14 CLRMAC
+    // 6.14 CLRMAC, line 1950.
     MACH + 0x12345678,
     MACL + 0x9abcdef0,
     0x0028, // CLRMAC
@@ -187,7 +187,7 @@ pub const EXAMPLES: [u64; 202] = [
     SHOW + MACH,
     SHOW + MACL,
     END,
-    // 6.14 CLRMAC with its two MAC.W, over the tables of section 6.31.
+    // 6.14 CLRMAC, line 1951: its two MAC.W, over the tables of section 6.31.
     MACH + 0x12345678,
     MACL + 0x9abcdef0,
     R0 + 0x3004,
@@ -203,13 +203,13 @@ pub const EXAMPLES: [u64; 202] = [
     SHOW + R0,
     SHOW + R1,
     END,
-    // 6.15 CLRT
+    // 6.15 CLRT, line 1976.
     SR + 1,
     0x0008, // CLRT
     RUN + 100,
     SHOW_T,
     END,
-    // 6.16 CMP/GE
+    // 6.16 CMP/GE, line 2103.
     SR + 1,
     R0 + 0x7fffffff,
     R1 + 0x80000000,
@@ -217,7 +217,7 @@ pub const EXAMPLES: [u64; 202] = [
     RUN + 100,
     SHOW_T,
     END,
-    // 6.16 CMP/GE and CMP/HS: the second BT branches to TRGET_T, H'100A.
+    // 6.16 CMP/GE and CMP/HS, line 2104: the second BT branches to TRGET_T, H'100A.
     R0 + 0x7fffffff,
     R1 + 0x80000000,
     0x3103, // CMP/GE R0,R1
@@ -230,7 +230,7 @@ pub const EXAMPLES: [u64; 202] = [
     SHOW + PC,
     SHOW_STEPS,
     END,
-    // 6.16 CMP/STR with "ABCD" and "XYCZ": branches to TRGET_T, H'1006.
+    // 6.16 CMP/STR, line 2107, with "ABCD" and "XYCZ": branches to TRGET_T, H'1006.
     R2 + 0x41424344,
     R3 + 0x5859435a,
     0x232c, // CMP/STR R2,R3

@@ -15,7 +15,7 @@ pub const TEXTS: [u8; 511] = *b"\
 ";
 
 pub const EXAMPLES: [u64; 85] = [
-    // Table 4.1: the word is sign-extended, and then added.
+    // Table 4.1, line 480: the word is sign-extended, and then added.
     R0 + 1,
     0x9101, // MOV.W @(disp,PC),R1
     0x301c, // ADD R1,R0
@@ -25,7 +25,7 @@ pub const EXAMPLES: [u64; 85] = [
     SHOW + R1,
     SHOW + R0,
     END,
-    // Table 4.2. SLEEP at TRGET, H'1006, leaves PC at H'1008.
+    // Table 4.2, line 498. TRGET is H'1006.
     R0 + 1,
     R1 + 2,
     0xa001, // BRA TRGET
@@ -35,7 +35,7 @@ pub const EXAMPLES: [u64; 85] = [
     SHOW + R0,
     SHOW + PC,
     END,
-    // Table 4.3: to TRGET0, H'1006, when R0 >= R1 ..
+    // Table 4.3, line 518: to TRGET0, H'1006, when R0 >= R1 ..
     R0 + 5,
     R1 + 5,
     0x3013, // CMP/GE R1,R0
@@ -56,7 +56,7 @@ pub const EXAMPLES: [u64; 85] = [
     SHOW_T,
     SHOW + PC,
     END,
-    // Table 4.3: branches to TRGET, H'1008, if R0 = 0.
+    // Table 4.3, line 521: to TRGET, H'1008, if R0 = 0.
     R0 + 1,
     0x70ff, // ADD #-1,R0
     0x8800, // CMP/EQ #0,R0
@@ -67,19 +67,19 @@ pub const EXAMPLES: [u64; 85] = [
     SHOW_T,
     SHOW + PC,
     END,
-    // Table 4.4, 8-bit immediate.
+    // Table 4.4, line 533: 8-bit immediate.
     0xe012, // MOV #H'12,R0
     RUN + 100,
     SHOW + R0,
     END,
-    // 16-bit immediate.
+    // Line 534: 16-bit immediate.
     0x9000, // MOV.W @(disp,PC),R0
     0x001b, // SLEEP
     0x1234, // .DATA.W H'1234
     RUN + 100,
     SHOW + R0,
     END,
-    // 32-bit immediate.
+    // Line 537: 32-bit immediate.
     0xd000, // MOV.L @(disp,PC),R0
     0x001b, // SLEEP
     0x1234, // .DATA.L H'12345678
@@ -87,7 +87,7 @@ pub const EXAMPLES: [u64; 85] = [
     RUN + 100,
     SHOW + R0,
     END,
-    // Table 4.5, with H'12345678 moved to H'3678.
+    // Table 4.5, line 551, with H'12345678 moved to H'3678.
     0x3678_5a000000,
     0xd101, // MOV.L @(disp,PC),R1
     0x6010, // MOV.B @R1,R0
@@ -99,7 +99,7 @@ pub const EXAMPLES: [u64; 85] = [
     SHOW + R1,
     SHOW + R0,
     END,
-    // Table 4.6.
+    // Table 4.6, line 564.
     R1 + 0x2000,
     0x3234_56780000,
     0x9001, // MOV.W @(disp,PC),R0

@@ -15,7 +15,7 @@ pub const TEXTS: [u8; 569] = *b"\
 ";
 
 pub const EXAMPLES: [u64; 164] = [
-    // Example 1: R1 (32 bits) / R0 (16 bits) = R1 (16 bits), unsigned. The last word of the long R1 is shown.
+    // Example 1, line 2246: R1 (32 bits) / R0 (16 bits) = R1 (16 bits), unsigned. Of R1 the last word is shown.
     R1 + 0x12345678,
     R0 + 0x5678,
     0x4028, // SHLL16 R0
@@ -34,7 +34,7 @@ pub const EXAMPLES: [u64; 164] = [
     SHOW + R2,
     SHOW_STEPS,
     END,
-    // Example 1, zero division: SLEEP at ZERO_DIV.
+    // Example 1, zero division.
     R1 + 0x12345678,
     0x4028, // SHLL16 R0
     0x2008, // TST R0,R0
@@ -51,7 +51,7 @@ pub const EXAMPLES: [u64; 164] = [
     SHOW + PC,
     SHOW_STEPS,
     END,
-    // Example 1, overflow: SLEEP at OVER_DIV, H'1034.
+    // Example 1, overflow: OVER_DIV is H'1034.
     R1 + 0x12345678,
     R0 + 0x1234,
     0x4028, // SHLL16 R0
@@ -69,7 +69,7 @@ pub const EXAMPLES: [u64; 164] = [
     SHOW + PC,
     SHOW_STEPS,
     END,
-    // Example 2: R1:R2 (64 bits) / R0 (32 bits) = R2 (32 bits), unsigned.
+    // Example 2, line 2262: R1:R2 (64 bits) / R0 (32 bits) = R2 (32 bits), unsigned.
     R1 + 0x12345678,
     R2 + 0x9abcdef0,
     R0 + 0x87654321,
@@ -86,7 +86,7 @@ pub const EXAMPLES: [u64; 164] = [
     SHOW + R2,
     SHOW_STEPS,
     END,
-    // Example 2, zero division: SLEEP at ZERO_DIV.
+    // Example 2, zero division.
     R1 + 0x12345678,
     R2 + 0x9abcdef0,
     0x2008, // TST R0,R0
@@ -102,7 +102,7 @@ pub const EXAMPLES: [u64; 164] = [
     SHOW + PC,
     SHOW_STEPS,
     END,
-    // Example 2, overflow: SLEEP at OVER_DIV, H'1090.
+    // Example 2, overflow: OVER_DIV is H'1090.
     R1 + 0x12345678,
     R2 + 0x9abcdef0,
     R0 + 0x12345678,
@@ -119,7 +119,7 @@ pub const EXAMPLES: [u64; 164] = [
     SHOW + PC,
     SHOW_STEPS,
     END,
-    // Example 3: R1 (16 bits) / R0 (16 bits) = R1 (16 bits), signed; -1000 / 7.
+    // Example 3, line 2279: R1 (16 bits) / R0 (16 bits) = R1 (16 bits), signed; -1000 / 7.
     R1 + 0xfffffc18,
     R0 + 0x00000007,
     0x4028, // SHLL16 R0
@@ -157,7 +157,7 @@ pub const EXAMPLES: [u64; 164] = [
     SHOW + R1,
     SHOW_STEPS,
     END,
-    // Example 4: R2 (32 bits) / R0 (32 bits) = R2 (32 bits), signed; -100000000 / 12345.
+    // Example 4, line 2299: R2 (32 bits) / R0 (32 bits) = R2 (32 bits), signed; -100000000 / 12345.
     R2 + 0xfa0a1f00,
     R0 + 0x00003039,
     0x6323, // MOV R2,R3

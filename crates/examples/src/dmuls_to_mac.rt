@@ -20,7 +20,7 @@ pub const TEXTS: [u8; 932] = *b"\
 ";
 
 pub const EXAMPLES: [u64; 163] = [
-    // 6.20 DMULS.L, the top.
+    // 6.20 DMULS.L, line 2381: the top.
     R0 + 0xfffffffe,
     R1 + 0x00005555,
     0x310d, // DMULS.L R0,R1
@@ -30,7 +30,7 @@ pub const EXAMPLES: [u64; 163] = [
     SHOW + MACL,
     SHOW + R0,
     END,
-    // 6.20 DMULS.L, the bottom.
+    // 6.20 DMULS.L, line 2384: the bottom.
     R0 + 0xfffffffe,
     R1 + 0x00005555,
     0x310d, // DMULS.L R0,R1
@@ -39,7 +39,7 @@ pub const EXAMPLES: [u64; 163] = [
     RUN + 100,
     SHOW + R0,
     END,
-    // 6.21 DMULU.L, the top. R0 is printed H'FFFFFFFF; the printed result is that of H'FFFFFFFE.
+    // 6.21 DMULU.L, line 2435: the top. R0 is printed H'FFFFFFFF; the printed result is that of H'FFFFFFFE.
     R0 + 0xfffffffe,
     R1 + 0x00005555,
     0x3105, // DMULU.L R0,R1
@@ -49,7 +49,7 @@ pub const EXAMPLES: [u64; 163] = [
     SHOW + MACL,
     SHOW + R0,
     END,
-    // 6.21 DMULU.L, the bottom.
+    // 6.21 DMULU.L, line 2438: the bottom.
     R0 + 0xfffffffe,
     R1 + 0x00005555,
     0x3105, // DMULU.L R0,R1
@@ -58,7 +58,7 @@ pub const EXAMPLES: [u64; 163] = [
     RUN + 100,
     SHOW + R0,
     END,
-    // 6.22 DT: four loops add R0 four times.
+    // 6.22 DT, line 2464: loops 4 times, each adding R0.
     R0 + 3,
     0xe504, // MOV #4,R5
     0x310c, // LOOP, H'1002: ADD R0,R1
@@ -70,7 +70,7 @@ pub const EXAMPLES: [u64; 163] = [
     SHOW + R1,
     SHOW_STEPS,
     END,
-    // 6.25 JMP
+    // 6.25 JMP, line 2577.
     0xd001, // MOV.L JMP_TABLE,R0
     0x402b, // JMP @R0
     0x6103, // MOV R0,R1
@@ -85,7 +85,7 @@ pub const EXAMPLES: [u64; 163] = [
     SHOW + PC,
     SHOW_STEPS,
     END,
-    // 6.26 JSR
+    // 6.26 JSR, line 2616.
     R1 + 5,
     R2 + 0x22,
     0xd002, // MOV.L JSR_TABLE,R0
@@ -108,13 +108,13 @@ pub const EXAMPLES: [u64; 163] = [
     SHOW + PC,
     SHOW_STEPS,
     END,
-    // 6.27 LDC to SR
+    // 6.27 LDC, line 2700.
     R0 + 0xffffffff,
     0x400e, // LDC R0,SR
     RUN + 100,
     SHOW + SR,
     END,
-    // 6.27 LDC.L
+    // 6.27 LDC.L, line 2702.
     R15 + 0x3000,
     0x3000_89abcdef,
     0x4f17, // LDC.L @R15+,GBR
@@ -122,13 +122,13 @@ pub const EXAMPLES: [u64; 163] = [
     SHOW + R15,
     SHOW + GBR,
     END,
-    // 6.28 LDS
+    // 6.28 LDS, line 2787.
     R0 + 0x12345678,
     0x402a, // LDS R0,PR
     RUN + 100,
     SHOW + PR,
     END,
-    // 6.28 LDS.L
+    // 6.28 LDS.L, line 2789.
     R15 + 0x3000,
     0x3000_89abcdef,
     0x4f16, // LDS.L @R15+,MACL
@@ -136,7 +136,7 @@ pub const EXAMPLES: [u64; 163] = [
     SHOW + R15,
     SHOW + MACL,
     END,
-    // 6.29 MAC.L, the table addresses.
+    // 6.29 MAC.L, line 2894: the table addresses.
     0xc703, // MOVA TBLM,R0
     0x6103, // MOV R0,R1
     0xc704, // MOVA TBLN,R0
@@ -144,7 +144,7 @@ pub const EXAMPLES: [u64; 163] = [
     SHOW + R1,
     SHOW + R0,
     END,
-    // 6.29 MAC.L
+    // 6.29 MAC.L, line 2897.
     MACH + 0x12345678,
     MACL + 0x9abcdef0,
     0xc703, // MOVA TBLM,R0
@@ -169,7 +169,7 @@ pub const EXAMPLES: [u64; 163] = [
     SHOW + R0,
     SHOW + R1,
     END,
-    // 6.31 MAC.W, the table addresses.
+    // 6.31 MAC.W, line 3003: the table addresses.
     0xc703, // MOVA TBLM,R0
     0x6103, // MOV R0,R1
     0xc703, // MOVA TBLN,R0
@@ -177,7 +177,7 @@ pub const EXAMPLES: [u64; 163] = [
     SHOW + R1,
     SHOW + R0,
     END,
-    // 6.31 MAC.W
+    // 6.31 MAC.W, line 3006.
     MACH + 0x12345678,
     MACL + 0x9abcdef0,
     0xc703, // MOVA TBLM,R0

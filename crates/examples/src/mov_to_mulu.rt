@@ -25,24 +25,27 @@ pub const TEXTS: [u8; 947] = *b"\
 ";
 
 pub const EXAMPLES: [u64; 190] = [
-    // 6.32 MOV, and below MOV.W to memory and so on.
+    // 6.32 MOV, line 3199.
     R0 + 0xffffffff,
     0x6103, // MOV R0,R1
     RUN + 100,
     SHOW + R1,
     END,
+    // Line 3201.
     R0 + 0xffff7f80,
     R1 + 0x3000,
     0x2101, // MOV.W R0,@R1
     RUN + 100,
     SHOW_WORD + 0x3000_00000000,
     END,
+    // Line 3203.
     R0 + 0x3000,
     0x3000_80000000,
     0x6100, // MOV.B @R0,R1
     RUN + 100,
     SHOW + R1,
     END,
+    // Line 3205.
     R0 + 0xaaaaaaaa,
     R1 + 0x3f80,
     0x2105, // MOV.W R0,@-R1
@@ -50,6 +53,7 @@ pub const EXAMPLES: [u64; 190] = [
     SHOW + R1,
     SHOW_WORD + 0x3f7e_00000000,
     END,
+    // Line 3207.
     R0 + 0x3670,
     0x3670_89abcdef,
     0x6106, // MOV.L @R0+,R1
@@ -57,7 +61,7 @@ pub const EXAMPLES: [u64; 190] = [
     SHOW + R0,
     SHOW + R1,
     END,
-    // R1 is stored, though the manual prints "R1 = @H'10000004".
+    // Line 3209: R1 is stored, though the manual prints "R1 = @H'10000004".
     R1 + 0x89abcdef,
     R2 + 0x00000004,
     R0 + 0x3000,
@@ -65,6 +69,7 @@ pub const EXAMPLES: [u64; 190] = [
     RUN + 100,
     SHOW_BYTE + 0x3004_00000000,
     END,
+    // Line 3211.
     R2 + 0x00000004,
     R0 + 0x3000,
     0x3004_9abc0000,
@@ -72,8 +77,9 @@ pub const EXAMPLES: [u64; 190] = [
     RUN + 100,
     SHOW + R1,
     END,
-    // 6.33 MOV, immediate data. The manual's MOV.L counts from NEXT + 2 and finds H'12345678; document 01's counts from the instruction's own
-    // address and finds what is at H'1014. The jump to either raises an address error (vector 9), which stacks that address.
+    // 6.33 MOV, immediate data, line 3273, which gives its displacements in bytes. The manual's MOV.L in the slot counts from NEXT + 2
+    // and finds H'12345678; document 01's counts from the instruction's own address and finds what is at H'1014. The jump to either
+    // raises an address error (vector 9), which stacks that address.
     R0 + 1,
     R15 + 0x3800,
     0x0024_00003000,
@@ -100,7 +106,7 @@ pub const EXAMPLES: [u64; 190] = [
     SHOW + 0x37f8_00000000,
     SHOW_STEPS,
     END,
-    // 6.33 MOV, immediate data, with the displacement that finds H'12345678 by document 01.
+    // The same with the displacement that finds H'12345678 by document 01.
     R0 + 1,
     R15 + 0x3800,
     0x0024_00003000,
@@ -127,34 +133,35 @@ pub const EXAMPLES: [u64; 190] = [
     SHOW + 0x37f8_00000000,
     SHOW_STEPS,
     END,
-    // 6.34 MOV, peripheral data.
+    // 6.34 MOV, peripheral data, line 3378: R0 is the value itself.
     GBR + 0x3000,
     0x3008_12345670,
     0xc602, // MOV.L @(2,GBR),R0
     RUN + 100,
     SHOW + R0,
     END,
-    // The stored byte is the last of R0, not the printed H'FFFF7F80.
+    // Line 3380: the stored byte is the last of R0, not the printed H'FFFF7F80.
     GBR + 0x3000,
     R0 + 0xffff7f80,
     0xc001, // MOV.B R0,@(1,GBR)
     RUN + 100,
     SHOW_BYTE + 0x3001_00000000,
     END,
-    // 6.35 MOV, structure data.
+    // 6.35 MOV, structure data, line 3475: R1 is the value itself.
     R0 + 0x3000,
     0x3008_12345670,
     0x5102, // MOV.L @(2,R0),R1
     RUN + 100,
     SHOW + R1,
     END,
+    // Line 3478.
     R0 + 0xffff7f80,
     R1 + 0x3000,
     0x110f, // MOV.L R0,@(H'F,R1)
     RUN + 100,
     SHOW + 0x303c_00000000,
     END,
-    // 6.36 MOVA. Three steps, since the string follows at once.
+    // 6.36 MOVA, line 3508. Three steps, since the string follows at once.
     ORG + 0x1006,
     R4 + 1,
     R5 + 2,
@@ -170,7 +177,8 @@ pub const EXAMPLES: [u64; 190] = [
     SHOW + R5,
     SHOW + PC,
     END,
-    // 6.36 MOVA in a slot. The manual has "Address of TRGET + 2", H'200C; by document 01 it is counted from the instruction's own address.
+    // 6.36 MOVA, line 3514, in a slot. The manual has "Address of TRGET + 2", H'200C; document 01 counts from the instruction's own
+    // address.
     ORG + 0x2002,
     0xa002, // BRA TRGET
     0xc700, // MOVA @(0,PC),R0
@@ -181,7 +189,7 @@ pub const EXAMPLES: [u64; 190] = [
     SHOW + PC,
     SHOW_STEPS,
     END,
-    // 6.37 MOVT
+    // 6.37 MOVT, line 3540.
     R2 + 0x12345678,
     0x222a, // XOR R2,R2
     0x4211, // CMP/PZ R2
@@ -191,6 +199,7 @@ pub const EXAMPLES: [u64; 190] = [
     SHOW_T,
     SHOW + R0,
     END,
+    // 6.37 MOVT, line 3543.
     R2 + 0x12345678,
     R1 + 0xffffffff,
     0x222a, // XOR R2,R2
@@ -202,7 +211,7 @@ pub const EXAMPLES: [u64; 190] = [
     SHOW_T,
     SHOW + R1,
     END,
-    // 6.38 MUL.L. R0 is printed H'FFFFFFFF; the printed result is that of H'FFFFFFFE.
+    // 6.38 MUL.L, line 3568. R0 is printed H'FFFFFFFF; the printed result is that of H'FFFFFFFE.
     R0 + 0xfffffffe,
     R1 + 0x00005555,
     0x0107, // MUL.L R0,R1
@@ -211,7 +220,7 @@ pub const EXAMPLES: [u64; 190] = [
     SHOW + MACL,
     SHOW + R0,
     END,
-    // 6.39 MULS.W
+    // 6.39 MULS.W, line 3595.
     R0 + 0xfffffffe,
     R1 + 0x00005555,
     0x210f, // MULS.W R0,R1
@@ -220,7 +229,7 @@ pub const EXAMPLES: [u64; 190] = [
     SHOW + MACL,
     SHOW + R0,
     END,
-    // 6.40 MULU.W
+    // 6.40 MULU.W, line 3623.
     R0 + 0x00000002,
     R1 + 0xffffaaaa,
     0x210e, // MULU.W R0,R1

@@ -26,7 +26,7 @@ pub const TEXTS: [u8; 1001] = *b"\
 ";
 
 pub const EXAMPLES: [u64; 182] = [
-    // 6.42 NEGC, the low half of R0:R1.
+    // 6.42 NEGC, line 3681: the low half of R0:R1.
     SR + 1,
     R1 + 0x00000001,
     0x0008, // CLRT
@@ -35,7 +35,7 @@ pub const EXAMPLES: [u64; 182] = [
     SHOW + R1,
     SHOW_T,
     END,
-    // 6.42 NEGC, both halves.
+    // 6.42 NEGC, line 3683: both halves.
     SR + 1,
     R1 + 0x00000001,
     0x0008, // CLRT
@@ -45,13 +45,13 @@ pub const EXAMPLES: [u64; 182] = [
     SHOW + R0,
     SHOW_T,
     END,
-    // 6.43 NOP, and the SLEEP.
+    // 6.43 NOP, line 3705.
     0x0009, // NOP
     RUN + 100,
     SHOW + PC,
     SHOW_STEPS,
     END,
-    // 6.45 OR.B
+    // 6.45 OR.B, line 3778.
     GBR + 0x3000,
     R0 + 4,
     0x3004_a5000000,
@@ -59,7 +59,7 @@ pub const EXAMPLES: [u64; 182] = [
     RUN + 100,
     SHOW_BYTE + 0x3004_00000000,
     END,
-    // 6.50 RTE, to the original routine at H'2000; SR is stacked with all bits set.
+    // 6.50 RTE, line 3952, to the original routine at H'2000. All bits of the stacked SR are set.
     R15 + 0x37f8,
     0x37f8_00002000,
     0x37fc_ffffffff,
@@ -73,7 +73,7 @@ pub const EXAMPLES: [u64; 182] = [
     SHOW + PC,
     SHOW_STEPS,
     END,
-    // 6.51 RTS
+    // 6.51 RTS, line 3986.
     R1 + 5,
     0xd302, // MOV.L TABLE,R3
     0x430b, // JSR @R3
@@ -94,25 +94,25 @@ pub const EXAMPLES: [u64; 182] = [
     SHOW + PC,
     SHOW_STEPS,
     END,
-    // 6.52 SETT
+    // 6.52 SETT, line 4020.
     0x0018, // SETT
     RUN + 100,
     SHOW_T,
     END,
-    // 6.59 SLEEP
+    // 6.59 SLEEP, line 4278.
     0x001b, // SLEEP
     RUN + 100,
     SHOW_ASLEEP,
     SHOW + PC,
     SHOW_STEPS,
     END,
-    // 6.60 STC
+    // 6.60 STC, line 4350.
     R0 + 0xffffffff,
     0x0002, // STC SR,R0
     RUN + 100,
     SHOW + R0,
     END,
-    // 6.60 STC.L
+    // 6.60 STC.L, line 4352.
     R15 + 0x3004,
     GBR + 0x89abcdef,
     0x4f13, // STC.L GBR,@-R15
@@ -120,13 +120,13 @@ pub const EXAMPLES: [u64; 182] = [
     SHOW + R15,
     SHOW + 0x3000_00000000,
     END,
-    // 6.61 STS
+    // 6.61 STS, line 4441.
     R0 + 0xffffffff,
     0x000a, // STS MACH,R0
     RUN + 100,
     SHOW + R0,
     END,
-    // 6.61 STS.L
+    // 6.61 STS.L, line 4443.
     R15 + 0x3004,
     PR + 0x89abcdef,
     0x4f22, // STS.L PR,@-R15
@@ -134,7 +134,7 @@ pub const EXAMPLES: [u64; 182] = [
     SHOW + R15,
     SHOW + 0x3000_00000000,
     END,
-    // 6.63 SUBC, the low half of R0:R1 - R2:R3.
+    // 6.63 SUBC, line 4501: the low half of R0:R1 - R2:R3.
     SR + 1,
     R3 + 0x00000001,
     0x0008, // CLRT
@@ -143,7 +143,7 @@ pub const EXAMPLES: [u64; 182] = [
     SHOW_T,
     SHOW + R1,
     END,
-    // 6.63 SUBC, both halves.
+    // 6.63 SUBC, line 4503: both halves.
     SR + 1,
     R3 + 0x00000001,
     0x0008, // CLRT
@@ -153,7 +153,7 @@ pub const EXAMPLES: [u64; 182] = [
     SHOW_T,
     SHOW + R0,
     END,
-    // 6.66 TAS.B: the data is 0, and the loop ends at once.
+    // 6.66 TAS.B, line 4624: the data is 0, and the loop ends at once.
     ORG + 0x1100,
     R7 + 0x1000,
     0x471b, // _LOOP: TAS.B @R7
@@ -176,7 +176,7 @@ pub const EXAMPLES: [u64; 182] = [
     SHOW_ASLEEP,
     SHOW_STEPS,
     END,
-    // 6.67 TRAPA, one step, to the routine at H'3000.
+    // 6.67 TRAPA, line 4657: one step, to the routine at H'3000.
     VBR + 0x2000,
     0x2080_00003000,
     R15 + 0x3800,
@@ -188,7 +188,7 @@ pub const EXAMPLES: [u64; 182] = [
     SHOW + 0x37fc_00000000,
     SHOW + PC,
     END,
-    // 6.67 TRAPA, with the routine XOR R0,R0; RTE; NOP.
+    // 6.67 TRAPA, with the routine of line 4660: XOR R0,R0; RTE; NOP.
     VBR + 0x2000,
     0x2080_00003000,
     R15 + 0x3800,
@@ -205,7 +205,7 @@ pub const EXAMPLES: [u64; 182] = [
     SHOW + PC,
     SHOW_STEPS,
     END,
-    // 6.68 TST.B
+    // 6.68 TST.B, line 4721.
     SR + 1,
     GBR + 0x3000,
     R0 + 4,
@@ -214,7 +214,7 @@ pub const EXAMPLES: [u64; 182] = [
     RUN + 100,
     SHOW_T,
     END,
-    // 6.69 XOR.B
+    // 6.69 XOR.B, line 4770.
     GBR + 0x3000,
     R0 + 4,
     0x3004_a5000000,
@@ -222,7 +222,7 @@ pub const EXAMPLES: [u64; 182] = [
     RUN + 100,
     SHOW_BYTE + 0x3004_00000000,
     END,
-    // 6.70 XTRCT
+    // 6.70 XTRCT, line 4802.
     R0 + 0x01234567,
     R1 + 0x89abcdef,
     0x210d, // XTRCT R0,R1

@@ -10,7 +10,7 @@ pub const TEXTS: [u8; 239] = *b"\
 ";
 
 pub const EXAMPLES: [u64; 44] = [
-    // Note 2, example 1: a general illegal instruction. Its own address is stacked.
+    // Note 2, line 1418: a general illegal instruction. Its own address is stacked.
     R15 + 0x3800,
     SR + 0xf0,
     0x0010_00003000,
@@ -22,7 +22,7 @@ pub const EXAMPLES: [u64; 44] = [
     SHOW + 0x37f8_00000000,
     SHOW + 0x37fc_00000000,
     END,
-    // Note 2, example 2: illegal in the SH-1 only; the operands are those of section 6.21.
+    // Note 2, line 1420: illegal in the SH-1 only. The operands are those of section 6.21.
     R0 + 0xfffffffe,
     R1 + 0x00005555,
     0x3105, // DMULU.L R0,R1
@@ -30,7 +30,7 @@ pub const EXAMPLES: [u64; 44] = [
     SHOW + MACH,
     SHOW + MACL,
     END,
-    // Note 3, example 1: an illegal slot. The target, Label at H'1006, is stacked.
+    // Note 3, line 1428: an illegal slot. The target, Label at H'1006, is stacked.
     R15 + 0x3800,
     SR + 0xf0,
     0x0018_00003000,
@@ -44,7 +44,7 @@ pub const EXAMPLES: [u64; 44] = [
     SHOW + 0x37f8_00000000,
     SHOW + 0x37fc_00000000,
     END,
-    // Note 3, example 2: an illegal slot. RTE has taken PC and SR off the stack, and its target, H'2000, is stacked.
+    // Note 3, line 1435: an illegal slot. RTE has taken PC and SR off the stack, and its target, H'2000, is stacked.
     R15 + 0x37f8,
     0x37f8_00002000,
     0x37fc_000000f0,

@@ -1,11 +1,11 @@
-// The numbers of which the tables of examples are made, in the order in which an example has them. A number below H'10000 is a word of the
-// program.
+// The numbers of which the tables of examples are made, in the order in which an example has them. A number below H'10000 is a word
+// of the program.
 
-// Sets the address of the words that follow, and where the example starts, if that is not H'1000.
+// Sets the address of the words that follow, and of the start, if that is not H'1000.
 pub const ORG: u64 = 0x1_0000_00000000;
 
-// Before execution: NAME + long sets a register, and ADDRESS_LONG, as in 0x3000_12345678, a long of the memory. The name of a register is the
-// address of its long in the image: `image::PROLOGUE` loads the registers from there, in this order.
+// Before execution: NAME + long sets a register, and ADDRESS_LONG, as in 0x3000_12345678, a long of the memory. The name of a
+// register is the address of its long in the image: `image::PROLOGUE` loads the registers from there, in this order.
 pub const GBR: u64 = 0x500_00000000;
 
 pub const VBR: u64 = 0x504_00000000;
