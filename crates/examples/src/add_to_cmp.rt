@@ -1,7 +1,8 @@
 // The examples of document 000, sections 6.3 to 6.16. PC is printed for the branches: the SLEEP at the destination leaves it 2 further.
+use crate::player;
 use crate::table::*;
 
-pub const TEXTS: [u8; 1068] = *b"\
+const TEXTS: [u8; 1068] = *b"\
     6.3 CLRT; ADDC R3,R1: T = %, R1 = %\n\
     6.3 CLRT; ADDC R3,R1; ADDC R2,R0: T = %, R0 = %\n\
     6.5 AND.B #H'80,@(R0,GBR): @(R0,GBR) = %\n\
@@ -21,7 +22,7 @@ pub const TEXTS: [u8; 1068] = *b"\
     6.16 CMP/STR R2,R3; BT TRGET_T: T = %, PC = %, steps = %\n\
 ";
 
-pub const EXAMPLES: [u64; 202] = [
+const EXAMPLES: [u64; 202] = [
     // 6.3 ADDC, line 1508: the low half of R0:R1 + R2:R3.
     SR + 1,
     R1 + 0x00000001,
@@ -242,3 +243,7 @@ pub const EXAMPLES: [u64; 202] = [
     SHOW_STEPS,
     END,
 ];
+
+pub fn run() {
+    player::play(&TEXTS, &EXAMPLES);
+}

@@ -1,7 +1,8 @@
 // The examples of document 000, section 4.1, Tables 4.1 to 4.6. Where a table leaves a value open, it is chosen here.
+use crate::player;
 use crate::table::*;
 
-pub const TEXTS: [u8; 511] = *b"\
+const TEXTS: [u8; 511] = *b"\
     4.1.3 MOV.W @(disp,PC),R1; ADD R1,R0: R1 = %, R0 = %\n\
     4.1.5 BRA TRGET; ADD R1,R0: R0 = %, PC = %\n\
     4.1.7 CMP/GE R1,R0 with R0 = R1; BT TRGET0; BF TRGET1: T = %, PC = %\n\
@@ -14,7 +15,7 @@ pub const TEXTS: [u8; 511] = *b"\
     4.1.10 MOV.W @(disp,PC),R0; MOV.W @(R0,R1),R2: R0 = %, R2 = %\n\
 ";
 
-pub const EXAMPLES: [u64; 85] = [
+const EXAMPLES: [u64; 85] = [
     // Table 4.1, line 480: the word is sign-extended, and then added.
     R0 + 1,
     0x9101, // MOV.W @(disp,PC),R1
@@ -111,3 +112,7 @@ pub const EXAMPLES: [u64; 85] = [
     SHOW + R2,
     END,
 ];
+
+pub fn run() {
+    player::play(&TEXTS, &EXAMPLES);
+}

@@ -1,7 +1,8 @@
 // The four division sequences of document 000, section 6.19. The manual leaves the operands open; they are chosen here.
+use crate::player;
 use crate::table::*;
 
-pub const TEXTS: [u8; 569] = *b"\
+const TEXTS: [u8; 569] = *b"\
     6.19 Example 1, H'12345678 / H'5678: R1 (16 bits) = %, R2 = %, steps = %\n\
     6.19 Example 1, H'12345678 / 0: PC = %, steps = %\n\
     6.19 Example 1, H'12345678 / H'1234: PC = %, steps = %\n\
@@ -14,7 +15,7 @@ pub const TEXTS: [u8; 569] = *b"\
     6.19 Example 4, -100000000 / -12345: R2 = %, steps = %\n\
 ";
 
-pub const EXAMPLES: [u64; 164] = [
+const EXAMPLES: [u64; 164] = [
     // Example 1, line 2246: R1 (32 bits) / R0 (16 bits) = R1 (16 bits), unsigned. Of R1 the last word is shown.
     R1 + 0x12345678,
     R0 + 0x5678,
@@ -190,3 +191,7 @@ pub const EXAMPLES: [u64; 164] = [
     SHOW_STEPS,
     END,
 ];
+
+pub fn run() {
+    player::play(&TEXTS, &EXAMPLES);
+}

@@ -1,7 +1,8 @@
 // The examples of document 000, sections 6.20 to 6.31.
+use crate::player;
 use crate::table::*;
 
-pub const TEXTS: [u8; 932] = *b"\
+const TEXTS: [u8; 932] = *b"\
     6.20 DMULS.L R0,R1; STS MACH,R0: MACH = %, MACL = %, R0 = %\n\
     6.20 DMULS.L R0,R1; STS MACH,R0; STS MACL,R0: R0 = %\n\
     6.21 DMULU.L R0,R1; STS MACH,R0: MACH = %, MACL = %, R0 = %\n\
@@ -19,7 +20,7 @@ pub const TEXTS: [u8; 932] = *b"\
     6.31 CLRMAC; MAC.W @R0+,@R1+; MAC.W @R0+,@R1+; STS MACL,R0: MACH = %, MACL = %, R0 = %, R1 = %\n\
 ";
 
-pub const EXAMPLES: [u64; 163] = [
+const EXAMPLES: [u64; 163] = [
     // 6.20 DMULS.L, line 2381: the top.
     R0 + 0xfffffffe,
     R1 + 0x00005555,
@@ -199,3 +200,7 @@ pub const EXAMPLES: [u64; 163] = [
     SHOW + R1,
     END,
 ];
+
+pub fn run() {
+    player::play(&TEXTS, &EXAMPLES);
+}

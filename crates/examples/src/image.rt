@@ -1,6 +1,7 @@
 // The image of an example: what reset reads, the registers' longs and the code that loads them, and the machine after execution.
 use crate::table;
 use instructions::Control;
+use machine::Answer;
 use machine::Mode;
 use memory::Long;
 use memory::Word;
@@ -53,11 +54,9 @@ pub fn append(image: &mut [u8], at: u32, word: u32) -> u32 {
     std::num::wrapping_add_u32(at, 2)
 }
 
-// Resets and runs, the prologue apart so that the steps are the example's, and leaves the registers in their longs.
+// Leaves the registers after execution in their longs.
 pub fn execute(image: &mut [u8], budget: u32) {
-    let started = machine::reset(image);
-    let loaded = machine::run(started.machine, image, PROLOGUE_STEPS);
-    let answer = machine::run(loaded.machine, image, budget);
+    let answer = run(image, budget);
     let after = answer.machine;
     let r = after.r;
     keep_general(image, r);
@@ -66,6 +65,13 @@ pub fn execute(image: &mut [u8], budget: u32) {
     let mode = after.mode;
     keep(image, table::SHOW_ASLEEP, asleep(mode));
     keep(image, table::SHOW_STEPS, answer.steps);
+}
+
+// The prologue is run apart, so that the steps of the answer are the example's.
+fn run(image: &mut [u8], budget: u32) -> Answer {
+    let started = machine::reset(image);
+    let loaded = machine::run(started.machine, image, PROLOGUE_STEPS);
+    machine::run(loaded.machine, image, budget)
 }
 
 fn keep(image: &mut [u8], name: u64, value: u32) {

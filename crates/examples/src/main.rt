@@ -13,11 +13,11 @@ mod player;
 mod table;
 
 fn main() {
-    player::play(&chapter_4::TEXTS, &chapter_4::EXAMPLES);
-    player::play(&notes::TEXTS, &notes::EXAMPLES);
-    player::play(&add_to_cmp::TEXTS, &add_to_cmp::EXAMPLES);
-    player::play(&div1::TEXTS, &div1::EXAMPLES);
-    player::play(&dmuls_to_mac::TEXTS, &dmuls_to_mac::EXAMPLES);
-    player::play(&mov_to_mulu::TEXTS, &mov_to_mulu::EXAMPLES);
-    player::play(&negc_to_xtrct::TEXTS, &negc_to_xtrct::EXAMPLES);
+    chapter_4::run();
+    notes::run();
+    add_to_cmp::run();
+    div1::run();
+    dmuls_to_mac::run();
+    mov_to_mulu::run();
+    negc_to_xtrct::run();
 }

@@ -1,7 +1,8 @@
 // The examples of document 000, sections 6.32 to 6.40.
+use crate::player;
 use crate::table::*;
 
-pub const TEXTS: [u8; 947] = *b"\
+const TEXTS: [u8; 947] = *b"\
     6.32 MOV R0,R1: R1 = %\n\
     6.32 MOV.W R0,@R1: @R1 = %\n\
     6.32 MOV.B @R0,R1: R1 = %\n\
@@ -24,7 +25,7 @@ pub const TEXTS: [u8; 947] = *b"\
     6.40 MULU.W R0,R1; STS MACL,R0: MACL = %, R0 = %\n\
 ";
 
-pub const EXAMPLES: [u64; 190] = [
+const EXAMPLES: [u64; 190] = [
     // 6.32 MOV, line 3199.
     R0 + 0xffffffff,
     0x6103, // MOV R0,R1
@@ -239,3 +240,7 @@ pub const EXAMPLES: [u64; 190] = [
     SHOW + R0,
     END,
 ];
+
+pub fn run() {
+    player::play(&TEXTS, &EXAMPLES);
+}

@@ -1,7 +1,8 @@
 // The examples of document 000, sections 6.42 to 6.70.
+use crate::player;
 use crate::table::*;
 
-pub const TEXTS: [u8; 1001] = *b"\
+const TEXTS: [u8; 1001] = *b"\
     6.42 CLRT; NEGC R1,R1: R1 = %, T = %\n\
     6.42 CLRT; NEGC R1,R1; NEGC R0,R0: R0 = %, T = %\n\
     6.43 NOP: PC = %, steps = %\n\
@@ -25,7 +26,7 @@ pub const TEXTS: [u8; 1001] = *b"\
     6.70 XTRCT R0,R1: R1 = %\n\
 ";
 
-pub const EXAMPLES: [u64; 182] = [
+const EXAMPLES: [u64; 182] = [
     // 6.42 NEGC, line 3681: the low half of R0:R1.
     SR + 1,
     R1 + 0x00000001,
@@ -230,3 +231,7 @@ pub const EXAMPLES: [u64; 182] = [
     SHOW + R1,
     END,
 ];
+
+pub fn run() {
+    player::play(&TEXTS, &EXAMPLES);
+}

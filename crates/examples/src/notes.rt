@@ -1,15 +1,16 @@
 // The examples of the notes in document 000, section 6.1: illegal instructions. The vectors are document 01's, 4 and 6, the stack is below
 // H'3800, and the routine at H'3000 is a SLEEP.
+use crate::player;
 use crate::table::*;
 
-pub const TEXTS: [u8; 239] = *b"\
+const TEXTS: [u8; 239] = *b"\
     6.1 H'FFFF: PC = %, R15 = %, stacked PC = %, stacked SR = %\n\
     6.1 H'3105: MACH = %, MACL = %\n\
     6.1 BRA Label; .data.w H'FFFF: PC = %, R15 = %, stacked PC = %, stacked SR = %\n\
     6.1 RTE; BT/S Label: PC = %, R15 = %, stacked PC = %, stacked SR = %\n\
 ";
 
-pub const EXAMPLES: [u64; 44] = [
+const EXAMPLES: [u64; 44] = [
     // Note 2, line 1418: a general illegal instruction. Its own address is stacked.
     R15 + 0x3800,
     SR + 0xf0,
@@ -59,3 +60,7 @@ pub const EXAMPLES: [u64; 44] = [
     SHOW + 0x37fc_00000000,
     END,
 ];
+
+pub fn run() {
+    player::play(&TEXTS, &EXAMPLES);
+}
