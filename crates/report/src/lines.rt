@@ -10,7 +10,6 @@ use text::hex;
 use text::write;
 ghost use mathlib.Core.Path.{_≡_};
 ghost use mathlib.Core.List.{_++_};
-ghost use Prim.Native.Nat.{ℕ};
 ghost use Rattle.machine.specs.Exceptions as Exceptions;
 ghost use Rattle.report.specs.Report as Report;
 ghost use Rattle.text.specs.Text as Text;

@@ -3,7 +3,6 @@ use machine::Answer;
 use machine::Machine;
 use machine::Refusal;
 ghost use mathlib.Core.Path.{_≡_};
-ghost use lib.ListN.{length};
 ghost use Rattle.machine.specs.Calls as Calls;
 ghost use Rattle.report.specs.Report as Report;
 

@@ -1,14 +1,12 @@
 -- What a text written from a buffer's start leaves: as much of it as there is room for, then the buffer's own bytes.
 -- Assumes nothing.
-use mathlib.Core.Path.{_≡_, refl, sym, ap, _∙_}
+use mathlib.Core.Path.{_≡_, refl, ap, _∙_}
 use mathlib.Core.List.{List, [], _∷_, _++_, append-nil}
 use Prim.Native.Nat.{ℕ, suc, _+_, _<_, min}
-use native.Mathlib.Nat.{add-suc, add-zero, le-refl, lt-suc-self, min-zero, suc-add, suc-min-suc, zero-add, zero-min}
-use native.Mathlib.Numerals.{add-one}
+use native.Mathlib.Nat.{add-zero, le-refl, min-zero, suc-min-suc, zero-add, zero-min}
 use native.Mathlib.Omega.{arith}
 use borrow.Author.Tests.{le-ltb, lt-ltb}
-use lib.Dec.{ltb}
-use lib.ListN.{drop, length, length-append, set, take}
+use lib.ListN.{drop, length, length-append, take}
 use lib.Seq.{append-snoc, set-append-seam}
 use Rattle.text.specs.Writing.{Page, page, put, write}
 

@@ -1,5 +1,4 @@
 // Writing bytes into a lent buffer, as many as it holds.
-ghost use lib.ListN.{length};
 ghost use mathlib.Core.List.{[], _∷_};
 ghost use Rattle.text.specs.Writing.{Writes};
 

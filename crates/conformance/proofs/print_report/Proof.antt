@@ -1,7 +1,7 @@
 -- `print_report` lends the part of the buffer that the report is in.
 -- Assumes nothing.
-use Rattle.report.proofs.Reporting.{fits}
 use borrow.Author.Needs.{needs}
+use Rattle.report.proofs.Reporting.{fits}
 use Rattle.conformance.proofs.print_report.Statement.{statement}
 use Rattle.conformance.proofs.print_report.Tie as tie
 

@@ -3,9 +3,9 @@
 use mathlib.Core.Path.{sym}
 use mathlib.Core.List.{_++_}
 use Prim.Native.Nat.{_≤_}
+use borrow.Author.Needs.{needs}
 use lib.ListN.{drop, length}
 use lib.Seq.{length-front, length-take-le}
-use borrow.Author.Needs.{needs}
 use Rattle.conformance.proofs.report_next.Statement.{statement}
 use Rattle.conformance.proofs.report_next.Tie as tie
 

@@ -1,11 +1,9 @@
 -- `report` writes the text of the outcome.
 -- Assumes nothing.
-use Rattle.report.proofs.Reporting.{reported}
 use borrow.Author.Needs.{needs}
+use Rattle.report.proofs.Reporting.{reported}
 use Rattle.report.proofs.report.Statement.{statement}
 use Rattle.report.proofs.report.Tie as tie
-use Rattle.report.proofs.lines.answer_text.Reads as answer-text-reads
-use Rattle.report.proofs.outcomes.outcome.Reads as outcome-reads
 
 outcome-requires : tie.Need-outcome-requires
 outcome-requires c κs = search needs

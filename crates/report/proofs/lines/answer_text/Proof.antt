@@ -1,16 +1,12 @@
 -- `answer_text` writes the machine where nothing was refused, and the refusal where something was.
 -- Assumes nothing.
-use borrow.Author.Tests.{ne-eqb}
 use mathlib.Core.Path.{sym}
+use borrow.Author.Tests.{ne-eqb}
+use borrow.Author.Needs.{needs}
 use Rattle.text.proofs.Writes.{and-then}
 use Rattle.report.specs.Report.{answerText}
-use borrow.Author.Needs.{needs}
 use Rattle.report.proofs.lines.answer_text.Statement.{statement}
 use Rattle.report.proofs.lines.answer_text.Tie as tie
-use Rattle.report.proofs.lines.machine_text.Reads as machine-text-reads
-use Rattle.report.proofs.outcomes.refusal_number.Reads as refusal-number-reads
-use Rattle.text.proofs.decimal.Reads as decimal-reads
-use Rattle.text.proofs.write.Reads as write-reads
 
 refusal-number-requires : tie.Need-refusal-number-requires
 refusal-number-requires c κs = search needs

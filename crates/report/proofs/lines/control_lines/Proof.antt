@@ -1,11 +1,10 @@
 -- `control_lines` writes the five lines in turn.
 -- Assumes nothing.
+use borrow.Author.Needs.{needs}
 use Rattle.text.proofs.Writes.{and-then}
 use Rattle.report.specs.Report.{controlLines}
-use borrow.Author.Needs.{needs}
 use Rattle.report.proofs.lines.control_lines.Statement.{statement}
 use Rattle.report.proofs.lines.control_lines.Tie as tie
-use Rattle.report.proofs.lines.register_line.Reads as register-line-reads
 
 slice-aggregate-register-line : tie.Need-slice-aggregate-register-line
 slice-aggregate-register-line c = search needs

@@ -1,17 +1,16 @@
-use native.Mathlib.Numerals.{add-one}
 -- `general_lines` has written the lines of the registers before k.
 -- Assumes nothing.
+use mathlib.Core.Path.{_≡_, refl, sym}
+use Prim.Native.Nat.{_-_, _≤_, zero-le}
+use native.Mathlib.Numerals.{add-one}
+use native.Mathlib.Nat.{le-antisymm}
+use borrow.Author.Needs.{needs}
+use lib.ListN.{length}
 use Rattle.text.specs.Writing.{Writes}
 use Rattle.text.proofs.Writes.{and-then, nothing}
 use Rattle.report.specs.Report.{generalLines}
-use borrow.Author.Needs.{needs}
-use lib.ListN.{length}
-use Prim.Native.Nat.{_-_, _≤_, zero-le}
-use native.Mathlib.Nat.{le-antisymm}
-use mathlib.Core.Path.{_≡_, refl, sym}
 use Rattle.report.proofs.lines.general_lines.Statement.{statement}
 use Rattle.report.proofs.lines.general_lines.Tie as tie
-use Rattle.report.proofs.lines.general_line.Reads as general-line-reads
 
 abbrev Inv-loop : tie.InvT-loop
 Inv-loop buffer₀ at r place₀ k₀ buffer place k = (length buffer ≡ length buffer₀) × (k ≤ 16) × Writes (generalLines k r) buffer₀ at buffer place

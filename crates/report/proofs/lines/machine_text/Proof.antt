@@ -1,15 +1,10 @@
 -- `machine_text` writes the lines in turn.
 -- Assumes nothing.
+use borrow.Author.Needs.{needs}
 use Rattle.text.proofs.Writes.{and-then}
 use Rattle.report.specs.Report.{machineText}
-use borrow.Author.Needs.{needs}
 use Rattle.report.proofs.lines.machine_text.Statement.{statement}
 use Rattle.report.proofs.lines.machine_text.Tie as tie
-use Rattle.report.proofs.lines.control_lines.Reads as control-lines-reads
-use Rattle.report.proofs.lines.general_lines.Reads as general-lines-reads
-use Rattle.report.proofs.lines.pc_line.Reads as pc-line-reads
-use Rattle.report.proofs.lines.state_line.Reads as state-line-reads
-use Rattle.report.proofs.lines.target_line.Reads as target-line-reads
 
 state-line-requires : tie.Need-state-line-requires
 state-line-requires c κs = search needs

@@ -1,14 +1,11 @@
-use mathlib.Core.Path.{sym}
 -- `mode_text` writes the word of the mode that it is given.
 -- Assumes nothing.
+use mathlib.Core.Path.{sym}
+use borrow.Author.Needs.{needs}
 use Rattle.text.proofs.Writes.{and-then}
 use Rattle.report.specs.Report.{modeText}
-use borrow.Author.Needs.{needs}
 use Rattle.report.proofs.lines.mode_text.Statement.{statement}
 use Rattle.report.proofs.lines.mode_text.Tie as tie
-use Rattle.report.proofs.lines.reason_number.Reads as reason-number-reads
-use Rattle.text.proofs.decimal.Reads as decimal-reads
-use Rattle.text.proofs.write.Reads as write-reads
 
 enum-told : tie.Need-enum-told
 enum-told c = search needs

@@ -1,12 +1,10 @@
 -- `pc_line` writes the parts of the line in turn.
 -- Assumes nothing.
+use borrow.Author.Needs.{needs}
 use Rattle.text.proofs.Writes.{and-then}
 use Rattle.report.specs.Report.{pcLine}
-use borrow.Author.Needs.{needs}
 use Rattle.report.proofs.lines.pc_line.Statement.{statement}
 use Rattle.report.proofs.lines.pc_line.Tie as tie
-use Rattle.text.proofs.hex.Reads as hex-reads
-use Rattle.text.proofs.write.Reads as write-reads
 
 slice-aggregate-write : tie.Need-slice-aggregate-write
 slice-aggregate-write c = search needs

@@ -1,13 +1,10 @@
 -- `state_line` writes the parts of the line in turn.
 -- Assumes nothing.
+use borrow.Author.Needs.{needs}
 use Rattle.text.proofs.Writes.{and-then}
 use Rattle.report.specs.Report.{stateLine}
-use borrow.Author.Needs.{needs}
 use Rattle.report.proofs.lines.state_line.Statement.{statement}
 use Rattle.report.proofs.lines.state_line.Tie as tie
-use Rattle.report.proofs.lines.mode_text.Reads as mode-text-reads
-use Rattle.text.proofs.decimal.Reads as decimal-reads
-use Rattle.text.proofs.write.Reads as write-reads
 
 slice-aggregate-write : tie.Need-slice-aggregate-write
 slice-aggregate-write c = search needs

@@ -1,14 +1,12 @@
-use Rattle.report.proofs.Unwritten.{no-target}
 -- `target_line` writes the parts of the line in turn, or nothing.
 -- Assumes nothing.
 use mathlib.Core.Path.{sym}
+use borrow.Author.Needs.{needs}
 use Rattle.text.proofs.Writes.{and-then, nothing}
 use Rattle.report.specs.Report.{targetLine}
-use borrow.Author.Needs.{needs}
+use Rattle.report.proofs.Unwritten.{no-target}
 use Rattle.report.proofs.lines.target_line.Statement.{statement}
 use Rattle.report.proofs.lines.target_line.Tie as tie
-use Rattle.text.proofs.hex.Reads as hex-reads
-use Rattle.text.proofs.write.Reads as write-reads
 
 enum-known-mode : tie.Need-enum-known-mode
 enum-known-mode c = search needs

@@ -1,12 +1,10 @@
 -- `value_text` writes the parts of a value's text in turn.
 -- Assumes nothing.
+use borrow.Author.Needs.{needs}
 use Rattle.text.proofs.Writes.{and-then}
 use Rattle.report.specs.Report.{valueText}
-use borrow.Author.Needs.{needs}
 use Rattle.report.proofs.lines.value_text.Statement.{statement}
 use Rattle.report.proofs.lines.value_text.Tie as tie
-use Rattle.text.proofs.hex.Reads as hex-reads
-use Rattle.text.proofs.write.Reads as write-reads
 
 slice-aggregate-write : tie.Need-slice-aggregate-write
 slice-aggregate-write c = search needs

@@ -1,14 +1,12 @@
 -- `begin` tries the length, and leaves the rest to `reset`.
 -- Assumes nothing.
+use mathlib.Core.Path.{ap}
+use borrow.Author.Tests.{le-ltb, lt-ltb}
+use borrow.Author.Needs.{needs}
 use Rattle.machine.specs.declared.Refusal.the-variants.{Size}
 use Rattle.machine.specs.declared.Machine.{Machine}
-use borrow.Author.Tests.{le-ltb, lt-ltb}
-use mathlib.Core.Path.{ap}
-use borrow.Author.Needs.{needs}
 use Rattle.report.proofs.outcomes.begin.Statement.{statement}
 use Rattle.report.proofs.outcomes.begin.Tie as tie
-use Rattle.machine.proofs.Machine.blank.Reads as blank-reads
-use Rattle.machine.proofs.reset.Reads as reset-reads
 
 blank-requires : tie.Need-blank-requires
 blank-requires c κs = search needs

@@ -1,14 +1,11 @@
 -- `outcome` runs where nothing is refused.
 -- Assumes nothing.
-use borrow.Author.Tests.{eq-eqb, ne-eqb}
-use Rattle.report.specs.Report.{outcome}
 use mathlib.Core.Path.{sym}
+use borrow.Author.Tests.{ne-eqb}
 use borrow.Author.Needs.{needs}
+use Rattle.report.specs.Report.{outcome}
 use Rattle.report.proofs.outcomes.outcome.Statement.{statement}
 use Rattle.report.proofs.outcomes.outcome.Tie as tie
-use Rattle.machine.proofs.run.Reads as run-reads
-use Rattle.report.proofs.outcomes.begin.Reads as begin-reads
-use Rattle.report.proofs.outcomes.refusal_number.Reads as refusal-number-reads
 
 begin-requires : tie.Need-begin-requires
 begin-requires c κs = search needs

@@ -1,10 +1,10 @@
 -- What `write` has still to write, written from where it stands, is the text written from where it began.
 -- Assumes nothing.
-use mathlib.Core.Path.{_≡_, refl, sym, ap, _∙_}
+use mathlib.Core.Path.{_≡_, refl, _∙_}
 use Prim.Native.Nat.{_-_}
 use borrow.Author.Needs.{needs}
 use lib.ListN.{drop, length}
-use Rattle.text.specs.Writing.{Writes, page, write}
+use Rattle.text.specs.Writing.{page, write}
 use Rattle.text.proofs.Writes.{next, past}
 use Rattle.text.proofs.pages.write.Statement.{statement}
 use Rattle.text.proofs.pages.write.Tie as tie
