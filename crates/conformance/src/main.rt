@@ -4,7 +4,6 @@ use libc::STDIN_FILENO;
 use libc::STDOUT_FILENO;
 use memory::Loaded;
 use memory::Long;
-use report::ENOUGH;
 
 // More than any length: the input has ended.
 const ENDED: u32 = 0xffffffff;
@@ -50,7 +49,7 @@ fn print_report(number: u32, image: &mut [u8]) {
     io::write_all(STDOUT_FILENO, b"image ");
     io::print_decimal(STDOUT_FILENO, number as u64);
     io::write_all(STDOUT_FILENO, b"\n");
-    let mut text = [0u8; ENOUGH];
+    let mut text = report::buffer();
     let n = report::report(image, &mut text);
     io::write_all(STDOUT_FILENO, &text[..n]);
 }

@@ -2,7 +2,7 @@
 use mathlib.Core.Path.{_≡_}
 use mathlib.Core.Bool.{cond}
 use mathlib.Core.List.{List, [], _++_}
-use Prim.Native.Nat.{ℕ, zero, suc, min}
+use Prim.Native.Nat.{ℕ, zero, suc, _≤_, min}
 use lib.Dec.{eqb, ltb}
 use lib.ListN.{drop, getD, length, take}
 use Rattle.instructions.specs.declared.control.Control.{Control}
@@ -88,3 +88,7 @@ pub record Reports (image after buffer filled : List ℕ) (n : ℕ) : Type 0 whe
   pub counts : n ≡ min (length buffer) (length (report image))
   pub fills : filled ≡ take n (report image) ++ drop n buffer
   pub leaves : after ≡ outcome image .memory
+
+-- The promise of `buffer`: no report is longer.
+abbrev pub Roomy : List ℕ → Type 0
+Roomy buffer = (image : List ℕ) → length (report image) ≤ length buffer

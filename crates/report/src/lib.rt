@@ -2,10 +2,17 @@
 mod lines;
 mod outcomes;
 
-ghost use Rattle.report.specs.Report.{Reports};
+ghost use mathlib.Core.Path.{_≡_};
+ghost use lib.ListN.{length};
+ghost use Rattle.report.specs.Report.{Reports, Roomy};
 
-// No report is longer (proofs/Bounds.antt).
-pub const ENOUGH: usize = 347;
+// A buffer with room for every report, all zeros.
+pub fn buffer() -> [u8; 347]
+    ensures { λ b. ⌜ 347 ≡ length b ⌝ }
+    ensures { λ b. ⌜ Roomy b ⌝ }
+{
+    [0; 347]
+}
 
 // Runs the image in memory, puts its report at the buffer's start, as much of it as there is room for, and answers how many bytes
 // that is.

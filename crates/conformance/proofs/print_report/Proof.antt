@@ -20,6 +20,9 @@ slice-aggregate-write-all-2 c = search needs
 write-all-requires-2 : tie.Need-write-all-requires-2
 write-all-requires-2 c κs = search needs
 
+buffer-requires : tie.Need-buffer-requires
+buffer-requires c κs = search needs
+
 slice-aggregate-report : tie.Need-slice-aggregate-report
 slice-aggregate-report c = search needs
 
@@ -50,6 +53,7 @@ print-report-spec =
     print-decimal-requires
     slice-aggregate-write-all-2
     write-all-requires-2
+    buffer-requires
     slice-aggregate-report
     report-requires
     array-share-prefix-text

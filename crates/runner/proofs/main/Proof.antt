@@ -5,6 +5,9 @@ use Rattle.report.proofs.Reporting.{fits}
 use Rattle.runner.proofs.main.Statement.{statement}
 use Rattle.runner.proofs.main.Tie as tie
 
+buffer-requires : tie.Need-buffer-requires
+buffer-requires c κs = search needs
+
 slice-aggregate-read-full : tie.Need-slice-aggregate-read-full
 slice-aggregate-read-full c = search needs
 
@@ -39,6 +42,7 @@ pub main-spec : {M : Type 1} → statement M
 main-spec =
     tie.close
     (tie.spec
+    buffer-requires
     slice-aggregate-read-full
     read-full-requires
     array-borrow-prefix-image
