@@ -1,15 +1,15 @@
 // One instruction: its effect on registers and memory, and where it leads. A function for each shape does the work.
+use branch_instructions::branches;
+use branch_instructions::returns;
 use decoder::Meaning;
 use instructions::Control;
 use instructions::Flow;
-use instructions::accumulate;
-use instructions::byte_logic;
-use instructions::flows;
-use instructions::loads;
-use instructions::registers;
-use instructions::returns;
-use instructions::stores;
-use instructions::system;
+use memory_instructions::accumulate;
+use memory_instructions::byte_logic;
+use memory_instructions::loads;
+use memory_instructions::stores;
+use memory_instructions::system;
+use register_instructions::registers;
 ghost use mathlib.Core.Path.{_≡_};
 ghost use mathlib.Core.Bool.{true};
 ghost use Prim.Native.Nat.{ℕ};
@@ -45,7 +45,7 @@ pub fn attempt(
     };
     match meaning {
         Meaning::Undefined => Flow::Illegal,
-        Meaning::NoOperand(op) => flows::no_operand(op, sr, mach, macl),
+        Meaning::NoOperand(op) => registers::no_operand(op, sr, mach, macl),
         Meaning::OneRegister(op, n) => {
             registers::one_register(op, n, sr, r);
             Flow::Next
@@ -144,9 +144,9 @@ fn rewrite_pc(
         return Flow::Illegal;
     }
     match meaning {
-        Meaning::BranchIf(op, d) => flows::branch_if(op, d, pc, *sr),
-        Meaning::Branch(op, d) => flows::branch(op, d, pc, pr),
-        Meaning::BranchTo(op, m) => flows::branch_to(op, m, pc, pr, r),
+        Meaning::BranchIf(op, d) => branches::branch_if(op, d, pc, *sr),
+        Meaning::Branch(op, d) => branches::branch(op, d, pc, pr),
+        Meaning::BranchTo(op, m) => branches::branch_to(op, m, pc, pr, r),
         Meaning::Return(op) => returns::return_by(op, sr, *pr, r, memory),
         Meaning::Trapa(i) => Flow::Trap(i as u32),
         _ => Flow::Illegal,

@@ -1,15 +1,7 @@
-// What an instruction does to registers and memory, and where it leads: the definition of all 142, and a function for each shape.
-mod accesses;
-pub mod accumulate;
-pub mod byte_logic;
+// What an instruction does to registers and memory, and where it leads: the definition of all 142, and the words that their functions share.
 mod control;
-pub mod flows;
-pub mod loads;
-pub mod registers;
-mod results;
-pub mod returns;
-pub mod stores;
-pub mod system;
 
 pub use control::Control;
 pub use control::Flow;
+pub use control::with_mqt;
+pub use control::with_t;

@@ -8,9 +8,9 @@ use Rattle.decoder.proofs.Rewriting.{stays}
 use borrow.Author.Needs.{needs}
 use Rattle.dispatch.proofs.rewrite_pc.Statement.{statement}
 use Rattle.dispatch.proofs.rewrite_pc.Tie as tie
-use Rattle.instructions.proofs.flows.branch_if.Reads as branch-if-reads
-use Rattle.instructions.proofs.flows.branch_to.Reads as branch-to-reads
-use Rattle.instructions.proofs.returns.return_by.Reads as return-by-reads
+use Rattle.branch_instructions.proofs.branches.branch_if.Reads as branch-if-reads
+use Rattle.branch_instructions.proofs.branches.branch_to.Reads as branch-to-reads
+use Rattle.branch_instructions.proofs.returns.return_by.Reads as return-by-reads
 
 returns : tie.Need-returns
 unfolding attempted

@@ -1,0 +1,3 @@
+// The instructions that work on registers alone.
+pub mod registers;
+mod results;
