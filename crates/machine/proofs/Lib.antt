@@ -1,6 +1,5 @@
 pub mod Calling
 pub mod Entries
-pub mod Examples
 pub mod Going
 pub mod Invariants
 pub mod Ranges

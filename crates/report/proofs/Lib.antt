@@ -1,4 +1,3 @@
 pub mod Bounds
-pub mod Examples
 pub mod Reporting
 pub mod Unwritten

@@ -24,18 +24,14 @@ use Rattle.report.specs.Report.{
   targetLine,
   valueText,
 }
+use Rattle.document_examples.proofs.Runs.{image, small}
 use Rattle.text.specs.Text.{ascii, decimal, hex, lineFeed}
 
--- "For 1,024 bytes, zero but for 00 00 02 00 00 00 04 00 at 0 and E0 05 00 1B at H'200"
-abbrev image : List ℕ
-image =
-    (0 ∷ 0 ∷ 2 ∷ 0 ∷ 0 ∷ 0 ∷ 4 ∷ 0 ∷ []) ++ replicate 504 0 ++ (0xe0 ∷ 5 ∷ 0 ∷ 0x1b ∷ []) ++ replicate 508 0
-
 pub whole-output :
-    report image ≡
+    report small ≡
     ascii "state asleep steps 2" ++ lineFeed ++ ascii "pc 00000204 sr 000000f0" ++ lineFeed ++ ascii "r0 00000005" ++ lineFeed ++
     ascii "r15 00000400" ++ lineFeed
-unfolding outcome run step meaning among table attempted execute accessible loaded valueAt answerText machineText stateLine modeText pcLine targetLine generalLines controlLines registerLine valueText hex decimal
+unfolding small image outcome run step meaning among table attempted execute accessible loaded valueAt answerText machineText stateLine modeText pcLine targetLine generalLines controlLines registerLine valueText hex decimal
 whole-output = refl
 
 -- "Length 1,022 is 1; length 0 and 1,020 are 2"

@@ -9,21 +9,21 @@ use Rattle.memory.specs.Access.{accessible, loaded, valueAt}
 use Rattle.decoder.specs.Code.{meaning, among}
 use Rattle.decoder.specs.Table.{table}
 use Rattle.instructions.specs.Execute.{attempted, execute}
 use Rattle.machine.specs.declared.Mode.the-variants.{Running, Asleep}
 use Rattle.machine.specs.declared.Refusal.the-variants.{Accepted}
 use Rattle.machine.specs.Step.{step}
 use Rattle.machine.specs.Run.{run, Ran}
 use Rattle.machine.specs.Calls.{runCall, started, over, startingAt}
 
 -- 1,024 bytes: PC H'200 and R15 H'400 in the first two longs, and a program of at most 256 words at H'200.
-image : List ℕ → List ℕ
+unfoldable pub image : List ℕ → List ℕ
 image code = 0 ∷ 0 ∷ 2 ∷ 0 ∷ 0 ∷ 0 ∷ 4 ∷ 0 ∷ (replicate 504 0 ++ code)
 
--- MOV #5,R0 and SLEEP.
-small : List ℕ
+-- MOV #5,R0 and SLEEP: "1,024 bytes, zero but for 00 00 02 00 00 00 04 00 at 0 and E0 05 00 1B at H'200".
+unfoldable pub small : List ℕ
 small = image (0xe0 ∷ 5 ∷ 0 ∷ 0x1b ∷ replicate 508 0)
 
-runs-to-sleep :
+pub runs-to-sleep :
     runCall 1000000 (started small) small ≡
     record {
       answer =
@@ -56,7 +56,7 @@ outcome x =
     let s = x .after .state in
     getD (s .registers) 1 0 ∷ getD (s .registers) 2 0 ∷ s .control .sr / 256 % 2 ∷ s .control .pc ∷ x .steps ∷ []
 
-divide : ℕ → ℕ → ℕ → List ℕ
+pub divide : ℕ → ℕ → ℕ → List ℕ
 divide high low divisor =
     outcome
     (run 66
@@ -66,7 +66,7 @@ divide high low divisor =
 
 -- "0:100 / 7 gives 14, H'FFFFFFFB, 1. 1:0 / 3 gives H'55555555, 1, 0. 6:H'FFFFFFFF / 7 gives H'FFFFFFFF, 6, 0. 0:100 / 0 gives
 -- H'FFFFFFFF, 100, 0."
-divisions :
+pub divisions :
     divide 0 100 7 ∷ divide 1 0 3 ∷ divide 6 0xffff_ffff 7 ∷ divide 0 100 0 ∷ [] ≡
     (14 ∷ 0xffff_fffb ∷ 1 ∷ 0x284 ∷ 66 ∷ []) ∷
     (0x5555_5555 ∷ 1 ∷ 0 ∷ 0x284 ∷ 66 ∷ []) ∷
