@@ -1,17 +1,18 @@
 -- What an accepted call says of the memory and of SR.
 -- Assumes nothing.
 use mathlib.Core.Path.{_≡_, refl, subst}
-use mathlib.Core.Bool.{Bool, true, false, _||_, cond, not}
+use mathlib.Core.Bool.{Bool, true, false, cond}
 use mathlib.Core.List.{List}
-use Prim.Native.Nat.{ℕ, _%_, _^_, _<_}
+use Prim.Native.Nat.{ℕ, _^_, _<_}
 use native.Mathlib.Omega.{arith}
-use borrow.Author.Tests.{eqb-true, ltb-false}
-use lib.Dec.{eqb, ltb}
+use borrow.Author.Tests.{eqb-true}
+use lib.Dec.{eqb}
 use lib.ListN.{length}
 use Rattle.instructions.specs.State.{masked}
 use Rattle.machine.specs.declared.Refusal.{Refusal}
 use Rattle.machine.specs.declared.Refusal.the-variants.{Accepted, Ragged, Size, Status}
 use Rattle.machine.specs.Calls.{refusedMemory, refusedState}
+use Rattle.machine.proofs.Calling.{accepted-size}
 
 pub memory-accepted : (a : Refusal) (sr : ℕ) → refusedState a sr ≡ Accepted → a ≡ Accepted
 memory-accepted Accepted sr e = refl
@@ -29,13 +30,4 @@ mask-passed a sr e =
     go false f = cc
 
 pub memory-bounded : (memory : List ℕ) → refusedMemory memory ≡ Accepted → length memory < 2 ^ 32
-memory-bounded memory e =
-    let n = length memory in
-    let bound = ltb-false 16777216 n (go (not (eqb (n % 4) 0)) (ltb n 1024) (ltb 16777216 n) e) in
-    omega arith
-  where
-    go : (a b c : Bool) → cond a Ragged (cond (b || c) Size Accepted) ≡ Accepted → c ≡ false
-    go true b c f = cc
-    go false true c f = cc
-    go false false true f = cc
-    go false false false f = refl
+memory-bounded memory e = let most = accepted-size memory e .1 in omega arith

@@ -3,20 +3,12 @@
 use mathlib.Core.Path.{_≡_, sym, _∙_, ap}
 use Prim.Native.Nat.{ℕ, _+_, _*_, _/_, _%_, _^_, _<_}
 use native.Mathlib.Omega.{arith}
-use lib.Bits.{bitAnd, and-block, and-mask}
 use Rattle.instructions.specs.State.{masked}
+use Rattle.instructions.proofs.Status.{masked-parts}
 
 -- M clear, Q and T as given, I and S from the SR before.
 abbrev pub status : ℕ → ℕ → ℕ → ℕ
 status sr q t = q * 2 ^ 8 + sr / 2 % 2 ^ 7 * 2 + t
-
--- The mask H'3F3 keeps bits 9 to 4, and 1 and 0.
-masked-parts : (x : ℕ) → masked x ≡ x / 16 % 64 * 16 + x % 4
-masked-parts x =
-    let split : x ≡ x / 16 * 2 ^ 4 + x % 16 = omega arith in
-    ap (λ y. bitAnd y 0x3f3) split
-    ∙ and-block 4 (x / 16) 63 (x % 16) 3 (omega arith) (omega arith)
-    ∙ rw (and-mask (x / 16) 6, and-mask (x % 16) 2) (omega arith)
 
 kept-parts : (upper lower : ℕ) → lower < 4 → (upper * 16 + lower) / 2 % 2 ^ 7 ≡ upper % 16 * 8 + lower / 2
 kept-parts upper lower small =

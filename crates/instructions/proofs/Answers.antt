@@ -11,7 +11,8 @@ use Rattle.memory.specs.declared.Stored.{Stored}
 use Rattle.memory.specs.declared.Stored.the-variants as stores
 use Rattle.decoder.specs.declared.meaning.Size.{Size}
 use Rattle.decoder.specs.declared.meaning.Size.the-variants.{Long}
-use Rattle.instructions.specs.Shapes.{Effect, afterLoad, extended, extendedLoad, leads, next, storing}
+use Rattle.instructions.specs.Shapes.{Effect, afterLoad, extended, leads, next, storing}
+use Rattle.instructions.specs.Promises.{extendedLoad}
 use Rattle.instructions.specs.State.{State, withMemory}
 use Rattle.instructions.specs.declared.control.Flow.the-variants.{Fault}
 

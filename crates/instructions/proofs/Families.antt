@@ -17,7 +17,8 @@ use Rattle.memory.specs.Access.{loaded}
 use Rattle.memory.specs.declared.Loaded.the-variants as loads
 use Rattle.instructions.specs.declared.control.Flow.the-variants.{Fault}
 use Rattle.instructions.specs.Execute.{execute}
-use Rattle.instructions.specs.Shapes.{leads, next, gives, gbrIndexed, loading, storing, bytes, extended, effective, steppedOn, steppedBack, withControlRegister, controlRegister, accumulating, accumulated, operandBytes}
+use Rattle.instructions.specs.Shapes.{leads, next, gives, gbrIndexed, loading, storing, bytes, extended, effective, steppedOn, steppedBack, withControlRegister, controlRegister, accumulating}
+use Rattle.instructions.specs.Promises.{accumulated, operandBytes}
 use Rattle.instructions.specs.State.{State, reg, withReg, changed, sBit}
 
 pub load-control :

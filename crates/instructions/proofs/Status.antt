@@ -7,7 +7,7 @@ use lib.Bits.{bitAnd, and-block, and-mask, and-le-r}
 use Rattle.instructions.specs.State.{masked, srWithT, srWithMQT}
 
 -- The mask keeps bits 9 to 4, and 1 and 0.
-masked-parts : (x : ℕ) → masked x ≡ x / 16 % 64 * 16 + x % 4
+pub masked-parts : (x : ℕ) → masked x ≡ x / 16 % 64 * 16 + x % 4
 masked-parts x =
     let split : x ≡ x / 16 * 2 ^ 4 + x % 16 = omega arith in
     ap (λ y. bitAnd y 0x3f3) split

@@ -4,9 +4,16 @@ use mathlib.Core.Bool.{Bool}
 use mathlib.Core.List.{List}
 use Prim.Native.Nat.{ℕ}
 use Rattle.numbers.specs.declared.WithT.{WithT}
+use Rattle.memory.specs.declared.Loaded.{Loaded}
+use Rattle.memory.specs.declared.Loaded.the-variants as loads
+use Rattle.multiply.specs.declared.Mac.{Mac}
+use Rattle.multiply.specs.Multiply.{macL, macW}
 use Rattle.decoder.specs.declared.meaning.Meaning.{Meaning}
+use Rattle.decoder.specs.declared.meaning.MultiplyAdd.{MultiplyAdd}
+use Rattle.decoder.specs.declared.meaning.MultiplyAdd.the-variants.{MacL, MacW}
+use Rattle.decoder.specs.declared.meaning.Size.{Size}
 use Rattle.instructions.specs.Execute.{attempted, execute}
-use Rattle.instructions.specs.Shapes.{givesT, leads, storing, tells}
+use Rattle.instructions.specs.Shapes.{extended, givesT, leads, storing, tells}
 use Rattle.instructions.specs.declared.control.Control.{Control}
 use Rattle.instructions.specs.declared.control.Flow.{Flow}
 use Rattle.instructions.specs.declared.control.Flow.the-variants.{Next}
@@ -45,3 +52,17 @@ Tells x a b t = (m n : ℕ) (s : State) → reg m s ≡ a → reg n s ≡ b → 
 abbrev pub Gives : (ℕ → ℕ → Meaning) → ℕ → ℕ → ℕ → WithT → Type 0
 Gives x a b t w =
     (m n : ℕ) (s : State) → reg m s ≡ a → reg n s ≡ b → tBit s ≡ t → execute (x m n) s ≡ givesT n w s
+
+-- A load of a size, as a register takes it.
+abbrev pub extendedLoad : Size → Loaded → Loaded
+extendedLoad size (loads.Value v) = loads.Value (extended size v)
+extendedLoad size loads.Fault = loads.Fault
+
+-- The size of an operand of MAC, and what MAC adds up.
+abbrev pub operandBytes : MultiplyAdd → ℕ
+operandBytes MacL = 4
+operandBytes MacW = 2
+
+abbrev pub accumulated : MultiplyAdd → ℕ → ℕ → ℕ → ℕ → ℕ → Mac
+accumulated MacL mach macl s a b = macL (record { mach = mach; macl = macl }) s a b
+accumulated MacW mach macl s a b = macW (record { mach = mach; macl = macl }) s a b

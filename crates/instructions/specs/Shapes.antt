@@ -9,9 +9,6 @@ use Rattle.arithmetic.specs.Transfers.{extsB, extsW}
 use Rattle.memory.specs.Access.{accessible, loaded, storedAt}
 use Rattle.memory.specs.declared.Loaded.{Loaded}
 use Rattle.memory.specs.declared.Loaded.the-variants as loads
-use Rattle.multiply.specs.Multiply.{macL, macW}
-use Rattle.decoder.specs.declared.meaning.MultiplyAdd.{MultiplyAdd}
-use Rattle.decoder.specs.declared.meaning.MultiplyAdd.the-variants.{MacL, MacW}
 use Rattle.decoder.specs.declared.meaning.Size.{Size}
 use Rattle.decoder.specs.declared.meaning.Size.the-variants.{Byte, Word, Long}
 use Rattle.decoder.specs.declared.meaning.Address.{Address}
@@ -78,11 +75,6 @@ extended Byte v = extsB v
 extended Word v = extsW v
 extended Long v = v
 
--- A load of a size, as a register takes it.
-abbrev pub extendedLoad : Size → Loaded → Loaded
-extendedLoad size (loads.Value v) = loads.Value (extended size v)
-extendedLoad size loads.Fault = loads.Fault
-
 -- Effective addresses (section 4.2), modulo 2^32; a displacement counts in units of the size.
 abbrev pub effective : Size → Address → State → ℕ
 effective size (Indirect r) s = reg r s
@@ -129,12 +121,3 @@ accumulating k f m n s =
     loading k (reg m (steppedOn k n s))
     (λ a. givesMac (f a b) (steppedOn k m (steppedOn k n s))) s)
     s
-
--- The size of an operand of MAC, and what MAC adds up.
-abbrev pub operandBytes : MultiplyAdd → ℕ
-operandBytes MacL = 4
-operandBytes MacW = 2
-
-abbrev pub accumulated : MultiplyAdd → ℕ → ℕ → ℕ → ℕ → ℕ → Mac
-accumulated MacL mach macl s a b = macL (record { mach = mach; macl = macl }) s a b
-accumulated MacW mach macl s a b = macW (record { mach = mach; macl = macl }) s a b

@@ -51,10 +51,20 @@ reset-refused Ragged memory h = refl
 reset-refused Size memory h = refl
 reset-refused Status memory h = refl
 
-not-short : (ragged short long : Bool) → cond ragged Ragged (cond (short || long) Size Accepted) ≡ Accepted → short ≡ false
-not-short true short long e = cc
-not-short false true long e = cc
-not-short false false long e = refl
+neither :
+    (ragged short long : Bool) → cond ragged Ragged (cond (short || long) Size Accepted) ≡ Accepted →
+    (short ≡ false) × (long ≡ false)
+neither true short long e = (cc, cc)
+neither false true long e = (cc, cc)
+neither false false true e = (cc, cc)
+neither false false false e = (refl, refl)
+
+pub accepted-size :
+    (memory : List ℕ) → refusedMemory memory ≡ Accepted → (1024 ≤ length memory) × (length memory ≤ 16777216)
+accepted-size memory e =
+    let n = length memory in
+    let within = neither (not (eqb (n % 4) 0)) (ltb n 1024) (ltb 16777216 n) e in
+    (ltb-false n 1024 (within .0), ltb-false 16777216 n (within .1))
 
 -- The two longs of a reset lie inside.
 pub accepted-opens :
@@ -62,7 +72,7 @@ pub accepted-opens :
 unfolding accessible
 accepted-opens memory e =
     let n = length memory in
-    let room : 1024 ≤ n = ltb-false n 1024 (not-short (not (eqb (n % 4) 0)) (ltb n 1024) (ltb 16777216 n) e) in
+    let room : 1024 ≤ n = accepted-size memory e .0 in
     let first : 0 + 4 ≤ n = omega (arith, room) in
     let second : 4 + 4 ≤ n = omega (arith, room) in
     (le-leb (0 + 4) n first, le-leb (4 + 4) n second)

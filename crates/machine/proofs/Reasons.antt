@@ -35,42 +35,42 @@ Elsewhere x = Other (x .mode)
 enters : (number saved : ℕ) (s : State) → Elsewhere (enter number saved s)
 enters number saved s = by-entry Elsewhere number saved s tt tt tt
 
--- What a flow may be in a mode: in a slot, no delayed branch.
-abbrev Admits : Mode → Flow → Type 0
-Admits (Slot target) flow = Straight flow
-Admits Running flow = Unit
-Admits Asleep flow = Unit
-Admits (Stopped reason) flow = Unit
+-- In a slot, no delayed branch.
+abbrev StraightInSlot : Mode → Flow → Type 0
+StraightInSlot (Slot target) flow = Straight flow
+StraightInSlot Running flow = Unit
+StraightInSlot Asleep flow = Unit
+StraightInSlot (Stopped reason) flow = Unit
 
 delays :
-    (mode : Mode) (target : ℕ) (before after : State) → Other mode → Admits mode (Delay target) →
+    (mode : Mode) (target : ℕ) (before after : State) → Other mode → StraightInSlot mode (Delay target) →
     Elsewhere (settle (Delay target) mode before after)
-delays Running target before after other admitted = tt
-delays (Slot waiting) target before after other admitted = absurd admitted
-delays Asleep target before after other admitted = tt
-delays (Stopped reason) target before after other admitted = other
+delays Running target before after other straight = tt
+delays (Slot waiting) target before after other straight = absurd straight
+delays Asleep target before after other straight = tt
+delays (Stopped reason) target before after other straight = other
 
 settles :
-    (flow : Flow) (mode : Mode) (before after : State) → Other mode → Admits mode flow →
+    (flow : Flow) (mode : Mode) (before after : State) → Other mode → StraightInSlot mode flow →
     Elsewhere (settle flow mode before after)
-settles Next mode before after other admitted = tt
-settles (Jump target) mode before after other admitted = tt
-settles (Delay target) mode before after other admitted = delays mode target before after other admitted
-settles Sleep mode before after other admitted = tt
-settles (Trap number) mode before after other admitted = enters number (nextPc mode before) before
-settles Fault mode before after other admitted = enters addressError (nextPc mode before) before
-settles Illegal mode before after other admitted = enters (illegalNumber mode) (savedPc mode (before .control .pc)) before
+settles Next mode before after other straight = tt
+settles (Jump target) mode before after other straight = tt
+settles (Delay target) mode before after other straight = delays mode target before after other straight
+settles Sleep mode before after other straight = tt
+settles (Trap number) mode before after other straight = enters number (nextPc mode before) before
+settles Fault mode before after other straight = enters addressError (nextPc mode before) before
+settles Illegal mode before after other straight = enters (illegalNumber mode) (savedPc mode (before .control .pc)) before
 
-admits : (mode : Mode) (x : Meaning) (s : State) → Admits mode (attempted (inSlot mode) x s .flow)
-admits (Slot target) x s = no-branch-in-slot x s
-admits Running x s = tt
-admits Asleep x s = tt
-admits (Stopped reason) x s = tt
+straight-in-slot : (mode : Mode) (x : Meaning) (s : State) → StraightInSlot mode (attempted (inSlot mode) x s .flow)
+straight-in-slot (Slot target) x s = no-branch-in-slot x s
+straight-in-slot Running x s = tt
+straight-in-slot Asleep x s = tt
+straight-in-slot (Stopped reason) x s = tt
 
 fetches : (mode : Mode) (l : Loaded) (s : State) → Other mode → Elsewhere (fetched mode l s)
 fetches mode (loads.Value w) s other =
     settles (attempted (inSlot mode) (meaning w) s .flow) mode s (attempted (inSlot mode) (meaning w) s .after) other
-    (admits mode (meaning w) s)
+    (straight-in-slot mode (meaning w) s)
 fetches mode loads.Fault s other = enters addressError (savedPc mode (s .control .pc)) s
 
 steps : (x : Situation) → Elsewhere x → Elsewhere (step x)

@@ -10,7 +10,7 @@ ghost use mathlib.Core.Path.{_≡_};
 ghost use mathlib.Core.List.{List};
 ghost use Prim.Native.Nat.{ℕ, _*_};
 ghost use Rattle.memory.specs.Access.{loaded, Stores};
-ghost use Rattle.instructions.specs.Promises.{state};
+ghost use Rattle.instructions.specs.Promises.{extendedLoad, state};
 ghost use Rattle.instructions.specs.Shapes as Shapes;
 ghost use Rattle.instructions.specs.State.{withGbr};
 
@@ -47,7 +47,7 @@ fn scaled(size: Size, d: u8) -> u32
 
 // What a register takes from memory.
 pub fn load(size: Size, memory: &[u8], at: u32) -> Loaded
-    ensures { λ v. ⌜ v ≡ Shapes.extendedLoad size (loaded (Shapes.bytes size) (now (memory .entry)) at) ⌝ }
+    ensures { λ v. ⌜ v ≡ extendedLoad size (loaded (Shapes.bytes size) (now (memory .entry)) at) ⌝ }
 {
     match size {
         Size::Byte => match memory::Byte::load(memory, at) {

@@ -11,9 +11,8 @@ use multiply::Mac;
 use std::num::wrapping_add_u32;
 ghost use mathlib.Core.Path.{_≡_};
 ghost use Rattle.memory.specs.Access.{loaded};
-ghost use Rattle.instructions.specs.Promises.{Performs};
+ghost use Rattle.instructions.specs.Promises as Promises;
 ghost use Rattle.instructions.specs.State.{withMac, withSr};
-ghost use Rattle.instructions.specs.Shapes as Shapes;
 
 pub fn multiply_add(
     operation: MultiplyAdd,
@@ -25,7 +24,7 @@ pub fn multiply_add(
     r: &mut [u32; 16],
     memory: &[u8],
 ) -> Flow
-    ensures { λ f. ⌜ ((c : Control) → Performs (Meaning.MultiplyAdd operation m n) (withSr sr (withMac (now (mach .entry)) (now (macl .entry)) c)) (now (r .entry)) (now (memory .entry)) f (withSr sr (withMac (now (mach .exit)) (now (macl .exit)) c)) (now (r .exit)) (now (memory .entry))) ⌝ }
+    ensures { λ f. ⌜ ((c : Control) → Promises.Performs (Meaning.MultiplyAdd operation m n) (withSr sr (withMac (now (mach .entry)) (now (macl .entry)) c)) (now (r .entry)) (now (memory .entry)) f (withSr sr (withMac (now (mach .exit)) (now (macl .exit)) c)) (now (r .exit)) (now (memory .entry))) ⌝ }
 {
     let from = (m % 16) as usize;
     let into = (n % 16) as usize;
@@ -53,7 +52,7 @@ pub fn multiply_add(
 }
 
 fn operand_bytes(operation: MultiplyAdd) -> u32
-    ensures { λ k. ⌜ k ≡ Shapes.operandBytes operation ⌝ }
+    ensures { λ k. ⌜ k ≡ Promises.operandBytes operation ⌝ }
 {
     match operation {
         MultiplyAdd::MacL => 4,
@@ -62,7 +61,7 @@ fn operand_bytes(operation: MultiplyAdd) -> u32
 }
 
 fn operand(operation: MultiplyAdd, memory: &[u8], at: u32) -> Loaded
-    ensures { λ v. ⌜ v ≡ loaded (Shapes.operandBytes operation) (now (memory .entry)) at ⌝ }
+    ensures { λ v. ⌜ v ≡ loaded (Promises.operandBytes operation) (now (memory .entry)) at ⌝ }
 {
     match operation {
         MultiplyAdd::MacL => Long::load(memory, at),
@@ -71,7 +70,7 @@ fn operand(operation: MultiplyAdd, memory: &[u8], at: u32) -> Loaded
 }
 
 fn accumulated(operation: MultiplyAdd, mach: u32, macl: u32, s: u32, a: u32, b: u32) -> Mac
-    ensures { λ sum. ⌜ sum ≡ Shapes.accumulated operation mach macl s a b ⌝ }
+    ensures { λ sum. ⌜ sum ≡ Promises.accumulated operation mach macl s a b ⌝ }
 {
     let before = Mac { mach, macl };
     match operation {

@@ -27,7 +27,7 @@ unfoldable pub hex : ℕ → ℕ → List ℕ
 hex zero n = []
 hex (suc k) n = hex k (n / 16) ++ (digit (n % 16) ∷ [])
 
--- Decimal without leading zeros, of at most k digits.
+-- Decimal without leading zeros; of a number of more than k digits, the last k.
 unfoldable pub decimal : ℕ → ℕ → List ℕ
 decimal zero n = []
 decimal (suc k) n = cond (ltb n 10) (digit n ∷ []) (decimal k (n / 10) ++ (digit (n % 10) ∷ []))
