@@ -1,12 +1,19 @@
-"""What the differential test and the conformance test share: the reference, and corpora of images."""
+"""What the tests share: the built programs, the reference, and corpora of images."""
 
 import difflib
+import os
 import subprocess
 from pathlib import Path
 
 ROOT = Path(__file__).resolve().parent.parent
 TARGET = ROOT / "target"
 REFERENCE = TARGET / "reference"
+
+
+def program(name):
+    """The words that start a built program; an environment variable of its name in capitals names another one."""
+    other = os.environ.get(name.upper())
+    return other.split() if other else [str(ROOT / "tools" / "program"), name]
 
 
 def build_reference():
