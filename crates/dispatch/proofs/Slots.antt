@@ -12,7 +12,7 @@ use Rattle.instructions.specs.Shapes.{Effect, leads}
 use Rattle.instructions.specs.State.{State, control}
 use Rattle.instructions.specs.declared.control.Control.{Control}
 use Rattle.instructions.specs.declared.control.Flow.{Flow}
-use Rattle.instructions.proofs.Effects.{attempt-keeps-pc}
+use Rattle.instructions.proofs.Effects.{pc-stays}
 
 pub anywhere : (slot : Bool) (x : Meaning) (s : State) (e : Effect) → rewritesPc x ≡ false → execute x s ≡ e → attempted slot x s ≡ e
 unfolding attempted
@@ -21,8 +21,8 @@ anywhere false x s e stays effect = effect
 
 -- An instruction leaves the PC to the step.
 pub at-the-same-pc :
-    (slot : Bool) (x : Meaning) (s : State) (f : Flow) (d : Control) (r memory : List ℕ) → attempted slot x s ≡ leads f (state r d memory) →
-    attempted slot x s ≡ leads f (state r (control (s .control .pc) (d .sr) (d .gbr) (d .vbr) (d .pr) (d .mach) (d .macl)) memory)
-at-the-same-pc slot x s f d r memory e =
-    let same : d .pc ≡ s .control .pc = sym (ap (λ (y : Effect). y .after .control .pc) e) ∙ attempt-keeps-pc slot x s in
+    (x : Meaning) (s : State) (f : Flow) (d : Control) (r memory : List ℕ) → execute x s ≡ leads f (state r d memory) →
+    execute x s ≡ leads f (state r (control (s .control .pc) (d .sr) (d .gbr) (d .vbr) (d .pr) (d .mach) (d .macl)) memory)
+at-the-same-pc x s f d r memory e =
+    let same : d .pc ≡ s .control .pc = sym (ap (λ (y : Effect). y .after .control .pc) e) ∙ pc-stays x s in
     e ∙ ap (λ (p : ℕ). leads f (state r (control p (d .sr) (d .gbr) (d .vbr) (d .pr) (d .mach) (d .macl)) memory)) same
