@@ -1,4 +1,5 @@
-// What an instruction does to registers and memory, and where it leads: the definition of all 142, and the words that their functions share.
+// What an instruction does to registers and memory, and where it leads: the definition of all 142, and the control registers and flows that
+// their functions share.
 mod control;
 
 pub use control::Control;

@@ -4,7 +4,7 @@ use mathlib.Core.Bool.{cond}
 use mathlib.Core.List.{List, [], _++_}
 use Prim.Native.Nat.{ℕ, zero, suc, _≤_, min}
 use lib.Dec.{eqb, ltb}
-use lib.ListN.{drop, getD, length, take}
+use lib.ListN.{drop, getD, length, replicate, take}
 use Rattle.instructions.specs.declared.control.Control.{Control}
 use Rattle.machine.specs.Calls.{Called, called, refusalNumber, refusedMemory, resetBy, runCall}
 use Rattle.machine.specs.Exceptions.{reasonNumber}
@@ -89,6 +89,7 @@ pub record Reports (image after buffer filled : List ℕ) (n : ℕ) : Type 0 whe
   pub fills : filled ≡ take n (report image) ++ drop n buffer
   pub leaves : after ≡ outcome image .memory
 
--- The promise of `buffer`: no report is longer.
-abbrev pub Roomy : List ℕ → Type 0
-Roomy buffer = (image : List ℕ) → length (report image) ≤ length buffer
+-- The promise of `buffer`: zeros, and no report is longer.
+pub record Roomy (buffer : List ℕ) : Type 0 where
+  pub zeros : buffer ≡ replicate (length buffer) 0
+  pub holds : (image : List ℕ) → length (report image) ≤ length buffer

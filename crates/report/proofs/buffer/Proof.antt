@@ -6,7 +6,7 @@ use Rattle.report.proofs.buffer.Statement.{statement}
 use Rattle.report.proofs.buffer.Tie as tie
 
 returns : tie.Need-returns
-returns c = (refl, enough)
+returns c = (refl, record { zeros = refl; holds = enough })
 
 pub buffer-spec : {M : Type 1} → statement M
 buffer-spec = tie.close (tie.spec returns)
