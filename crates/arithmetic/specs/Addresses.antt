@@ -1,24 +1,25 @@
--- Addresses counted from an instruction's own address A: document 01, "Branch addresses" and "PC-relative data".
+-- Addresses counted from PC: document 01, "Branch addresses" and "PC-relative data". With A the instruction's own address, its PC is
+-- A + 4, as in the manual's programming model (document 000, section 2.3): the second instruction after it.
 use Prim.Native.Nat.{ℕ, _+_, _*_, _/_, _^_}
 use lib.IntN.{pos, _*ℤ_}
-use Rattle.numbers.specs.Numbers.{word, signed, lowLong}
+use Rattle.numbers.specs.Numbers.{low32, signed, lowLong}
 
--- A + 4: where BSR, BSRF and JSR return to
+-- A + 4: what an instruction at A takes for PC, and where BSR, BSRF and JSR return to
 abbrev pub following : ℕ → ℕ
-following a = word (a + 4)
+following a = low32 (a + 4)
 
--- BF, BT, BF/S, BT/S (half 2^7) and BRA, BSR (half 2^11): A + 4 + 2 x signed displacement
+-- BF, BT, BF/S, BT/S (half 2^7) and BRA, BSR (half 2^11): PC + 2 x signed displacement
 abbrev pub branch : ℕ → ℕ → ℕ → ℕ
-branch half a d = word (word (a + 4) + lowLong (signed half d *ℤ pos 2))
+branch half pc d = low32 (pc + lowLong (signed half d *ℤ pos 2))
 
--- BRAF, BSRF: A + 4 + Rm
+-- BRAF, BSRF: PC + Rm
 abbrev pub far : ℕ → ℕ → ℕ
-far a m = word (word (a + 4) + m)
+far pc m = low32 (pc + m)
 
--- MOV.W @(disp,PC): A + 4 + 2 x disp
+-- MOV.W @(disp,PC): PC + 2 x disp
 abbrev pub relativeWord : ℕ → ℕ → ℕ
-relativeWord a d = word (word (a + 4) + d * 2)
+relativeWord pc d = low32 (pc + d * 2)
 
--- MOV.L @(disp,PC) and MOVA: A + 4 with its two low bits cleared, plus 4 x disp
+-- MOV.L @(disp,PC) and MOVA: PC with its two low bits cleared, plus 4 x disp
 abbrev pub relativeLong : ℕ → ℕ → ℕ
-relativeLong a d = word (word (a + 4) / 4 * 4 + d * 4)
+relativeLong pc d = low32 (pc / 4 * 4 + d * 4)

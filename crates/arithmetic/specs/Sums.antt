@@ -3,41 +3,41 @@
 use Prim.Native.Nat.{ℕ, _+_, _-_, _^_}
 use lib.Dec.{eqb, leb, ltb}
 use lib.IntN.{_+ℤ_, _-ℤ_}
-use Rattle.numbers.specs.Numbers.{truth, word, signedLong, overflows}
+use Rattle.numbers.specs.Numbers.{truth, low32, signedLong, overflows}
 use Rattle.numbers.specs.declared.WithT.{WithT}
 
 -- 6.2 ADD
 abbrev pub add : ℕ → ℕ → ℕ
-add m n = word (n + m)
+add m n = low32 (n + m)
 
 -- 6.3 ADDC: T is 1 exactly if the true sum reaches 2^32.
 abbrev pub addc : ℕ → ℕ → ℕ → WithT
-addc m n t = record { value = word (n + m + t); t = truth (leb (2 ^ 32) (n + m + t)) }
+addc m n t = record { value = low32 (n + m + t); t = truth (leb (2 ^ 32) (n + m + t)) }
 
 -- 6.4 ADDV: T is 1 exactly if the true signed sum is no signed number of 32 bits.
 abbrev pub addv : ℕ → ℕ → WithT
-addv m n = record { value = word (n + m); t = truth (overflows (signedLong n +ℤ signedLong m)) }
+addv m n = record { value = low32 (n + m); t = truth (overflows (signedLong n +ℤ signedLong m)) }
 
 -- 6.22 DT
 abbrev pub dt : ℕ → WithT
-dt n = record { value = word (n + 2 ^ 32 - 1); t = truth (eqb (word (n + 2 ^ 32 - 1)) 0) }
+dt n = record { value = low32 (n + 2 ^ 32 - 1); t = truth (eqb (low32 (n + 2 ^ 32 - 1)) 0) }
 
 -- 6.41 NEG
 abbrev pub neg : ℕ → ℕ
-neg m = word (2 ^ 32 - m)
+neg m = low32 (2 ^ 32 - m)
 
 -- 6.42 NEGC: T is 1 exactly if the true difference is below zero.
 abbrev pub negc : ℕ → ℕ → WithT
-negc m t = record { value = word (2 ^ 33 - (m + t)); t = truth (ltb 0 (m + t)) }
+negc m t = record { value = low32 (2 ^ 33 - (m + t)); t = truth (ltb 0 (m + t)) }
 
 -- 6.62 SUB
 abbrev pub sub : ℕ → ℕ → ℕ
-sub m n = word (n + 2 ^ 32 - m)
+sub m n = low32 (n + 2 ^ 32 - m)
 
 -- 6.63 SUBC: T is 1 exactly if the true difference is below zero.
 abbrev pub subc : ℕ → ℕ → ℕ → WithT
-subc m n t = record { value = word (n + 2 ^ 33 - (m + t)); t = truth (ltb n (m + t)) }
+subc m n t = record { value = low32 (n + 2 ^ 33 - (m + t)); t = truth (ltb n (m + t)) }
 
 -- 6.64 SUBV: T is 1 exactly if the true signed difference is no signed number of 32 bits.
 abbrev pub subv : ℕ → ℕ → WithT
-subv m n = record { value = word (n + 2 ^ 32 - m); t = truth (overflows (signedLong n -ℤ signedLong m)) }
+subv m n = record { value = low32 (n + 2 ^ 32 - m); t = truth (overflows (signedLong n -ℤ signedLong m)) }

@@ -12,7 +12,7 @@ pub fn following(a: u32) -> u32
 
 // A branch by an 8-bit displacement.
 pub fn branch(a: u32, d: u8) -> u32
-    ensures { λ r. ⌜ r ≡ Addresses.branch (2 ^ 7) a d ⌝ }
+    ensures { λ r. ⌜ r ≡ Addresses.branch (2 ^ 7) (Addresses.following a) d ⌝ }
 {
     let twice = numbers::signed(d as u32, 128) * 2;
     wrapping_add_u32(following(a), numbers::low_long(twice))
@@ -20,26 +20,26 @@ pub fn branch(a: u32, d: u8) -> u32
 
 // A branch by a 12-bit displacement, of which a number has no bit above the twelve.
 pub fn long_branch(a: u32, d: u16) -> u32
-    ensures { λ r. ⌜ r ≡ Addresses.branch (2 ^ 11) a d ⌝ }
+    ensures { λ r. ⌜ r ≡ Addresses.branch (2 ^ 11) (Addresses.following a) d ⌝ }
 {
     let twice = numbers::signed(d as u32, 2048) * 2;
     wrapping_add_u32(following(a), numbers::low_long(twice))
 }
 
 pub fn far(a: u32, m: u32) -> u32
-    ensures { λ r. ⌜ r ≡ Addresses.far a m ⌝ }
+    ensures { λ r. ⌜ r ≡ Addresses.far (Addresses.following a) m ⌝ }
 {
     wrapping_add_u32(following(a), m)
 }
 
 pub fn relative_word(a: u32, d: u8) -> u32
-    ensures { λ r. ⌜ r ≡ Addresses.relativeWord a d ⌝ }
+    ensures { λ r. ⌜ r ≡ Addresses.relativeWord (Addresses.following a) d ⌝ }
 {
     wrapping_add_u32(following(a), d as u32 * 2)
 }
 
 pub fn relative_long(a: u32, d: u8) -> u32
-    ensures { λ r. ⌜ r ≡ Addresses.relativeLong a d ⌝ }
+    ensures { λ r. ⌜ r ≡ Addresses.relativeLong (Addresses.following a) d ⌝ }
 {
     wrapping_add_u32(following(a) / 4 * 4, d as u32 * 4)
 }

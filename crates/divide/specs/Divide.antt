@@ -3,7 +3,7 @@
 use mathlib.Core.Bool.{Bool, not, cond}
 use Prim.Native.Nat.{ℕ, _+_, _*_, _-_, _/_, _^_}
 use lib.Dec.{eqb, leb, ltb}
-use Rattle.numbers.specs.Numbers.{truth, word}
+use Rattle.numbers.specs.Numbers.{truth, low32}
 use Rattle.divide.specs.declared.Bits.{Bits}
 use Rattle.divide.specs.declared.Divided.{Divided}
 
@@ -17,11 +17,11 @@ div0u = record { m = 0; q = 0; t = 0 }
 
 -- "Rn is doubled and T added"
 abbrev pub doubled : ℕ → ℕ → ℕ
-doubled n t = word (n * 2 + t)
+doubled n t = low32 (n * 2 + t)
 
 -- "Rm is subtracted if old Q = M, otherwise added, modulo 2^32"
 abbrev pub partialRemainder : Bool → ℕ → ℕ → ℕ
-partialRemainder subtract d m = cond subtract (word (d + 2 ^ 32 - m)) (word (d + m))
+partialRemainder subtract d m = cond subtract (low32 (d + 2 ^ 32 - m)) (low32 (d + m))
 
 -- "a borrow or carry"
 abbrev pub borrowOrCarry : Bool → ℕ → ℕ → Bool

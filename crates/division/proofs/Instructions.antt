@@ -7,7 +7,7 @@ use Prim.Native.Nat.{ℕ, _+_, _%_, _^_, _≤_, _<_}
 use native.Mathlib.Omega.{arith}
 use borrow.Author.Tests.{eq-eqb, le-leb}
 use lib.ListN.{length}
-use Rattle.numbers.specs.Numbers.{word}
+use Rattle.numbers.specs.Numbers.{low32}
 use Rattle.memory.specs.Access.{accessible, valueAt, loaded}
 use Rattle.memory.specs.declared.Loaded.the-variants as loads
 use Rattle.decoder.specs.Code.{meaning, among}
@@ -28,25 +28,25 @@ use Rattle.machine.specs.declared.Mode.the-variants.{Running}
 use Rattle.machine.specs.Exceptions.{Situation, at}
 use Rattle.machine.specs.Step.{step}
 use Rattle.machine.specs.Calls.{refusedMemory, over}
-use Rattle.division.specs.Division.{div0u, rotcl, div1, Premises, Values, values}
+use Rattle.division.specs.Division.{div0uCode, rotclCode, div1Code, Premises, Values, values}
 use Rattle.division.proofs.Steps.{div1-q-bit, div1-t-bit}
 use Rattle.division.proofs.Status.{status, reads-t, reads-q, reads-m, writes-t, writes-qt}
 use Rattle.division.proofs.Acceptance.{memory-accepted, memory-bounded}
 use Rattle.division.proofs.Registers.{registers, reads-low, reads-high, reads-divisor, writes-low, writes-high, unwritten}
 
-means-div0u : meaning div0u ≡ NoOperand Div0u
+means-div0u : meaning div0uCode ≡ NoOperand Div0u
 unfolding meaning among table
 means-div0u = refl
 
-means-rotcl : (n : ℕ) → n < 16 → meaning (rotcl n) ≡ OneRegister Rotcl n
+means-rotcl : (n : ℕ) → n < 16 → meaning (rotclCode n) ≡ OneRegister Rotcl n
 unfolding among table
 means-rotcl n small =
-    sym (arm {t = 4} {s = n} {h = 2} {l = 4} (rotcl n) (omega arith) (omega arith) (omega arith) (omega arith) refl)
+    sym (arm {t = 4} {s = n} {h = 2} {l = 4} (rotclCode n) (omega arith) (omega arith) (omega arith) (omega arith) refl)
 
-means-div1 : (m n : ℕ) → m < 16 → n < 16 → meaning (div1 m n) ≡ Divide Div1 m n
+means-div1 : (m n : ℕ) → m < 16 → n < 16 → meaning (div1Code m n) ≡ Divide Div1 m n
 unfolding among table
 means-div1 m n small small′ =
-    sym (arm {t = 3} {s = n} {h = m} {l = 4} (div1 m n) (omega arith) (omega arith) (omega arith) (omega arith) refl)
+    sym (arm {t = 3} {s = n} {h = m} {l = 4} (div1Code m n) (omega arith) (omega arith) (omega arith) (omega arith) refl)
 
 fetches :
     (memory : List ℕ) (address w : ℕ) → address % 2 ≡ 0 → address + 2 ≤ length memory → valueAt 2 memory address ≡ w →
@@ -58,7 +58,7 @@ fetches memory address w even inside stands =
 -- The step of any instruction that leads on to the next.
 steps-on :
     (s after : State) (w : ℕ) (x : Meaning) (pc : ℕ) → loaded 2 (s .memory) (s .control .pc) ≡ loads.Value w → meaning w ≡ x →
-    execute x s ≡ next after → word (s .control .pc + 2) ≡ pc →
+    execute x s ≡ next after → low32 (s .control .pc + 2) ≡ pc →
     step (at Running s) ≡ at Running (changed (withPc pc) after)
 unfolding step attempted
 steps-on s after w x pc fetched means gives moves = rw (fetched, means, gives, moves)
@@ -104,7 +104,7 @@ module _ {low high divisor : ℕ} {m : Machine} {memory : List ℕ} (p : Premise
     pub q-bit : x .q < 2
     pub t-bit : x .t < 2
 
-  next-pc : (pc : ℕ) → pc + 2 ≤ length memory → word (pc + 2) ≡ pc + 2
+  next-pc : (pc : ℕ) → pc + 2 ≤ length memory → low32 (pc + 2) ≡ pc + 2
   next-pc pc inside =
       omega (arith, memory-bounded memory (memory-accepted (refusedMemory memory) (m .control .sr) (p .accepted)))
 
@@ -117,8 +117,8 @@ module _ {low high divisor : ℕ} {m : Machine} {memory : List ℕ} (p : Premise
   div0u-step =
       let inside : m .control .pc + 2 ≤ length memory = omega (arith, p .inside) in
       steps-on (over m memory .state)
-      (state (record { pc = m .control .pc; low = before .low; high = before .high; q = 0; t = 0 })) div0u (NoOperand Div0u)
-      (m .control .pc + 2) (fetches memory (m .control .pc) div0u (p .even) inside (p .words .0)) means-div0u (rw (unwritten p))
+      (state (record { pc = m .control .pc; low = before .low; high = before .high; q = 0; t = 0 })) div0uCode (NoOperand Div0u)
+      (m .control .pc + 2) (fetches memory (m .control .pc) div0uCode (p .even) inside (p .words .0)) means-div0u (rw (unwritten p))
       (next-pc (m .control .pc) inside)
 
   module _ (x : Place) (sound : Sound x) where
@@ -129,12 +129,12 @@ module _ {low high divisor : ℕ} {m : Machine} {memory : List ℕ} (p : Premise
     abbrev sr : ℕ
     sr = m .control .sr
 
-    pub rotcl-step : valueAt 2 memory (x .pc) ≡ rotcl low → step (here x) ≡ here (afterRotcl x)
+    pub rotcl-step : valueAt 2 memory (x .pc) ≡ rotclCode low → step (here x) ≡ here (afterRotcl x)
     unfolding execute
     rotcl-step stands =
         let after = afterRotcl x in
-        steps-on (state x) (state (stay after)) (rotcl low) (OneRegister Rotcl low) (x .pc + 2)
-        (fetches memory (x .pc) (rotcl low) (sound .even) (sound .inside) stands) (means-rotcl low (p .low-number))
+        steps-on (state x) (state (stay after)) (rotclCode low) (OneRegister Rotcl low) (x .pc + 2)
+        (fetches memory (x .pc) (rotclCode low) (sound .even) (sound .inside) stands) (means-rotcl low (p .low-number))
         (rw (
           reads-low p (x .low) (x .high),
           reads-t sr (x .q) (x .t) (sound .q-bit) (sound .t-bit),
@@ -143,12 +143,12 @@ module _ {low high divisor : ℕ} {m : Machine} {memory : List ℕ} (p : Premise
         ))
         (next-pc (x .pc) (sound .inside))
 
-    pub div1-step : valueAt 2 memory (x .pc) ≡ div1 divisor high → step (here x) ≡ here (afterDiv1 (before .divisor) x)
+    pub div1-step : valueAt 2 memory (x .pc) ≡ div1Code divisor high → step (here x) ≡ here (afterDiv1 (before .divisor) x)
     unfolding execute
     div1-step stands =
         let after = afterDiv1 (before .divisor) x in
-        steps-on (state x) (state (stay after)) (div1 divisor high) (Divide Div1 divisor high) (x .pc + 2)
-        (fetches memory (x .pc) (div1 divisor high) (sound .even) (sound .inside) stands)
+        steps-on (state x) (state (stay after)) (div1Code divisor high) (Divide Div1 divisor high) (x .pc + 2)
+        (fetches memory (x .pc) (div1Code divisor high) (sound .even) (sound .inside) stands)
         (means-div1 divisor high (p .divisor-number) (p .high-number))
         (rw (
           reads-high p (x .low) (x .high),

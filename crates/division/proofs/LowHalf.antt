@@ -7,7 +7,7 @@ use native.Mathlib.Nat.{mul-add, add-mul, mul-comm, mul-le-mul-right}
 use native.Mathlib.Omega.{arith}
 use borrow.Author.Tests.{ltb-true, ltb-false}
 use lib.Dec.{ltb}
-use Rattle.numbers.specs.Numbers.{word}
+use Rattle.numbers.specs.Numbers.{low32}
 
 -- n bits of x are still to come. c is 2 to the number of bits taken, which make the number taken; l and t are Rn and T: the bits to come,
 -- above a 0 and all the answers, the last of them in T.
@@ -31,7 +31,7 @@ start x small =
     }
 
 -- ROTCL of l with t, from the 33 bits that they make.
-rotated : (l t top e : ℕ) → t < 2 → e < 2 ^ 32 → l * 2 + t ≡ top * 2 ^ 32 + e → (word (l * 2 + t) ≡ e) × (l / 2 ^ 31 ≡ top)
+rotated : (l t top e : ℕ) → t < 2 → e < 2 ^ 32 → l * 2 + t ≡ top * 2 ^ 32 + e → (low32 (l * 2 + t) ≡ e) × (l / 2 ^ 31 ≡ top)
 rotated l t top e bit small parts = (omega arith, omega arith)
 
 -- The room that rest, below h, has with the answers behind it.
@@ -91,7 +91,7 @@ module _ {x n c taken answers l t : ℕ} (lower : answers < c) (before : LowHalf
                 ∙ omega (arith, add-mul (before .rest - 2 ^ n) (2 ^ n) (c + c), mul-add (2 ^ n) c c, half);
           }
 
-  leaving : (word (l * 2 + t) ≡ next .rest * (c + c) + answers) × (l / 2 ^ 31 ≡ next .top)
+  leaving : (low32 (l * 2 + t) ≡ next .rest * (c + c) + answers) × (l / 2 ^ 31 ≡ next .top)
   leaving =
       rotated l t (next .top) (next .rest * (c + c) + answers) (before .bit) (room c (2 ^ n) (next .rest) answers lower half (next .below))
       (next .holds)
@@ -102,7 +102,7 @@ module _ {x n c taken answers l t : ℕ} (lower : answers < c) (before : LowHalf
   -- One ROTCL, after which DIV1 leaves a new answer in T.
   pub moved :
       (answer : ℕ) → answer < 2 →
-      LowHalf x n (c + c) (taken + taken + l / 2 ^ 31) (answers + answers + answer) (word (l * 2 + t)) answer
+      LowHalf x n (c + c) (taken + taken + l / 2 ^ 31) (answers + answers + answer) (low32 (l * 2 + t)) answer
   moved answer bit =
       rw (leaving .0, leaving .1)
       (record {
@@ -130,7 +130,7 @@ module _ {x c taken answers l t : ℕ} (lower : answers < c) (before : LowHalf x
   pub last-long : l < 2 ^ 32
   last-long = omega (arith, gone, all-done)
 
-  pub last-value : word (l * 2 + t) ≡ answers
+  pub last-value : low32 (l * 2 + t) ≡ answers
   last-value = omega (arith, gone, all-done)
 
   pub last-t : l / 2 ^ 31 ≡ 0

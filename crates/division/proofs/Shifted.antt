@@ -7,7 +7,7 @@ use native.Mathlib.Nat.{mul-add, add-mul, mul-comm, mul-le-mul-right}
 use native.Mathlib.Omega.{arith}
 use borrow.Author.Tests.{ltb-true, ltb-false, le-ltb, lt-leb}
 use lib.Dec.{ltb, eqb}
-use Rattle.numbers.specs.Numbers.{truth, word}
+use Rattle.numbers.specs.Numbers.{truth, low32}
 use Rattle.divide.specs.declared.Divided.{Divided}
 use Rattle.divide.specs.Divide.{div1, div1With, partialRemainder, borrowOrCarry, flipped}
 use Rattle.division.proofs.Steps.{Steps, none, another, in-range}
@@ -23,8 +23,8 @@ only-shifted false e top small =
     let same : (e + 0) % 2 ^ 32 ≡ e = omega arith in
     rw (same, lt-leb (2 ^ 32) (e + 0) (omega arith))
 
-only-shifts : (v q b : ℕ) → div1 0 v 0 q b ≡ div1With (word (v * 2 + b)) (v / 2 ^ 31) 0
-only-shifts v q b = only-shifted (eqb q 0) (word (v * 2 + b)) (v / 2 ^ 31) (omega arith)
+only-shifts : (v q b : ℕ) → div1 0 v 0 q b ≡ div1With (low32 (v * 2 + b)) (v / 2 ^ 31) 0
+only-shifts v q b = only-shifted (eqb q 0) (low32 (v * 2 + b)) (v / 2 ^ 31) (omega arith)
 
 -- w is 2 to the number of steps still possible with 32 bits. x has given out its upper bits, the last of them into Q, and the answers are
 -- their complement; what stays of x is in Rn, with the bits behind it.
@@ -40,7 +40,7 @@ pub record Shifted (x c w bits answers v q : ℕ) : Type 0 where
 module _ {x : ℕ} (small : x < 2 ^ 32) where
   shift :
       (c w bits answers v q b : ℕ) → b < 2 → bits < c → (c + c) * w ≡ 2 ^ 32 → Shifted x c (w + w) bits answers v q →
-      Shifted x (c + c) w (bits + bits + b) (answers + answers + truth (eqb (v / 2 ^ 31) 0)) (word (v * 2 + b)) (v / 2 ^ 31)
+      Shifted x (c + c) w (bits + bits + b) (answers + answers + truth (eqb (v / 2 ^ 31) 0)) (low32 (v * 2 + b)) (v / 2 ^ 31)
   shift c w bits answers v q b bit lower full before = go (ltb (before .stay) w) refl
     where
       products : (s : ℕ) → s < w → (s * c + c ≤ w * c) × (w * c ≡ 2 ^ 31)
@@ -49,7 +49,7 @@ module _ {x : ℕ} (small : x < 2 ^ 32) where
 
       go :
           (t : Bool) → ltb (before .stay) w ≡ t →
-          Shifted x (c + c) w (bits + bits + b) (answers + answers + truth (eqb (v / 2 ^ 31) 0)) (word (v * 2 + b)) (v / 2 ^ 31)
+          Shifted x (c + c) w (bits + bits + b) (answers + answers + truth (eqb (v / 2 ^ 31) 0)) (low32 (v * 2 + b)) (v / 2 ^ 31)
       go true e =
           let stays : before .stay < w = ltb-true (before .stay) w e in
           let room = products (before .stay) stays in

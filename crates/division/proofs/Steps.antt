@@ -5,7 +5,7 @@ use mathlib.Core.Bool.{Bool, true, false, cond}
 use Prim.Native.Nat.{ℕ, _+_, _-_, _/_, _%_, _^_, _≤_, _<_}
 use native.Mathlib.Omega.{arith}
 use lib.Dec.{eqb}
-use Rattle.numbers.specs.Numbers.{truth, word}
+use Rattle.numbers.specs.Numbers.{truth, low32}
 use Rattle.divide.specs.Divide.{div1, doubled, borrowOrCarry, flipped}
 
 -- Steps d x c bits answers v q: x stood in Rn, with Q = 0, and d in Rm. After the steps c is 2 to their number, the bits that T brought
@@ -24,7 +24,7 @@ flipped-bit : (a : Bool) (top : ℕ) → top < 2 → flipped a top < 2
 flipped-bit true top bit = omega arith
 flipped-bit false top bit = bit
 
-word-either : (a : Bool) (x y : ℕ) → cond a (word x) (word y) < 2 ^ 32
+word-either : (a : Bool) (x y : ℕ) → cond a (low32 x) (low32 y) < 2 ^ 32
 word-either true x y = omega arith
 word-either false x y = omega arith
 

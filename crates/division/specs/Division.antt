@@ -4,7 +4,7 @@ use mathlib.Core.Path.{_≡_}
 use mathlib.Core.List.{List, [], _∷_}
 use Prim.Native.Nat.{ℕ, zero, suc, _+_, _*_, _-_, _/_, _%_, _^_, _≤_, _<_}
 use lib.ListN.{length, getD, replicate}
-use Rattle.numbers.specs.Numbers.{word}
+use Rattle.numbers.specs.Numbers.{low32}
 use Rattle.memory.specs.Access.{valueAt}
 use Rattle.instructions.specs.State.{State, reg, tBit, sBit, qBit, mBit, masked}
 use Rattle.machine.specs.declared.Machine.{Machine}
@@ -16,22 +16,22 @@ use Rattle.machine.specs.Run.{Ran, still, run}
 use Rattle.machine.specs.Calls.{Called, Runs, refused, over, runCall}
 
 -- DIV0U, ROTCL Rn and DIV1 Rm,Rn: document 000, sections 6.18, 6.46 and 6.19.
-abbrev pub div0u : ℕ
-div0u = 0b0000_0000_0001_1001
+abbrev pub div0uCode : ℕ
+div0uCode = 0b0000_0000_0001_1001
 
-abbrev pub rotcl : ℕ → ℕ
-rotcl n = 0b0100_0000_0010_0100 + n * 2 ^ 8
+abbrev pub rotclCode : ℕ → ℕ
+rotclCode n = 0b0100_0000_0010_0100 + n * 2 ^ 8
 
-abbrev pub div1 : ℕ → ℕ → ℕ
-div1 m n = 0b0011_0000_0000_0100 + n * 2 ^ 8 + m * 2 ^ 4
+abbrev pub div1Code : ℕ → ℕ → ℕ
+div1Code m n = 0b0011_0000_0000_0100 + n * 2 ^ 8 + m * 2 ^ 4
 
 -- n times ROTCL low and DIV1 divisor,high, and then ROTCL low.
 abbrev pub pairs : ℕ → ℕ → ℕ → ℕ → List ℕ
-pairs zero low high divisor = rotcl low ∷ []
-pairs (suc n) low high divisor = rotcl low ∷ div1 divisor high ∷ pairs n low high divisor
+pairs zero low high divisor = rotclCode low ∷ []
+pairs (suc n) low high divisor = rotclCode low ∷ div1Code divisor high ∷ pairs n low high divisor
 
 abbrev pub sequence : ℕ → ℕ → ℕ → List ℕ
-sequence low high divisor = div0u ∷ pairs 32 low high divisor
+sequence low high divisor = div0uCode ∷ pairs 32 low high divisor
 
 -- Some words stand one after the other from an address on.
 abbrev pub Words : List ℕ → ℕ → List ℕ → Type 0
@@ -108,7 +108,7 @@ pub record Divided (before after : Values) : Type 0 where
   pub odd-high : after .low % 2 ≡ 1 → after .high ≡ dividend before % before .divisor
   -- "for an even one Q = 1 and high is the remainder less the divisor modulo 2^32"
   pub even-q : after .low % 2 ≡ 0 → after .q ≡ 1
-  pub even-high : after .low % 2 ≡ 0 → after .high ≡ word (dividend before % before .divisor + 2 ^ 32 - before .divisor)
+  pub even-high : after .low % 2 ≡ 0 → after .high ≡ low32 (dividend before % before .divisor + 2 ^ 32 - before .divisor)
 
 -- After, where the divisor is 0: "low is the old high complemented, high the old low, Q the old high's lowest bit"
 pub record Complemented (before after : Values) : Type 0 where

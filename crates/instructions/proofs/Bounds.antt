@@ -5,12 +5,12 @@ use mathlib.Core.Bool.{Bool, true, false, cond}
 use Prim.Native.Nat.{ℕ, _+_, _-_, _/_, _%_, _^_, _<_}
 use native.Mathlib.Nat.{div-le-self, lt-of-le-of-lt, mod-lt}
 use native.Mathlib.Omega.{arith}
-use lib.Bits.{and-le-l}
+use lib.Bits.{bitAnd, and-le-l}
 use lib.Dec.{eqb}
 use lib.IntN.{ℤ, pos, negsuc, _+ℤ_, _*ℤ_}
 use lib.Pow.{pow-pos}
-use Rattle.numbers.specs.Numbers.{word, lowBits, signed, signedLong, signedWord}
-use Rattle.arithmetic.specs.Logic.{«and», «not»}
+use Rattle.numbers.specs.Numbers.{low32, lowBits, signed, signedLong, signedWord}
+use Rattle.arithmetic.specs.Logic.{complement}
 use Rattle.arithmetic.specs.Transfers.{swapB, xtrct}
 use Rattle.shifts.specs.Shifts.{rotl, rotr}
 use Rattle.multiply.specs.Multiply.{split, joined, held, dmulsL, dmuluL, muluW, macL, macLHeld, macW, macWHeld, summed}
@@ -18,8 +18,8 @@ use Rattle.multiply.specs.declared.Mac.{Mac}
 use Rattle.multiply.proofs.Products.{product-below}
 use Rattle.divide.specs.Divide.{div1, doubled, partialRemainder}
 
-pub word-below : (x : ℕ) → word x < 2 ^ 32
-word-below x = omega arith
+pub low32-below : (x : ℕ) → low32 x < 2 ^ 32
+low32-below x = omega arith
 
 pub low-bits-below : (k : ℕ) (z : ℤ) → lowBits k z < 2 ^ k
 low-bits-below k (pos n) = mod-lt n (pow-pos k)
@@ -28,11 +28,11 @@ low-bits-below k (negsuc n) = omega (arith, pow-pos k)
 pub part-below : (d : ℕ) {n b : ℕ} → n < b → n / d < b
 part-below d {n} below = lt-of-le-of-lt (div-le-self n d) below
 
-pub and-below : (m : ℕ) {n b : ℕ} → n < b → «and» m n < b
+pub and-below : (m : ℕ) {n b : ℕ} → n < b → bitAnd n m < b
 and-below m {n} below = lt-of-le-of-lt (and-le-l n m) below
 
-pub not-below : (m : ℕ) → «not» m < 2 ^ 32
-not-below m = omega arith
+pub complement-below : (m : ℕ) → complement m < 2 ^ 32
+complement-below m = omega arith
 
 pub swapB-below : {m : ℕ} → m < 2 ^ 32 → swapB m < 2 ^ 32
 swapB-below below = omega arith
@@ -54,8 +54,8 @@ pub div1-below : (m n mBit q t : ℕ) → div1 m n mBit q t .value < 2 ^ 32
 div1-below m n mBit q t = either (eqb q mBit)
   where
     either : (subtract : Bool) → partialRemainder subtract (doubled n t) m < 2 ^ 32
-    either true = word-below (doubled n t + 2 ^ 32 - m)
-    either false = word-below (doubled n t + m)
+    either true = low32-below (doubled n t + 2 ^ 32 - m)
+    either false = low32-below (doubled n t + m)
 
 -- MACH and MACL.
 pub record MacBelow (a : Mac) : Type 0 where

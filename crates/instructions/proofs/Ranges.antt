@@ -11,7 +11,7 @@ use lib.Dec.{T, eqb, ltb→lt}
 use lib.IntN.{_*ℤ_}
 use lib.Signed.{shrZ}
 use lib.ListN.{getD, length, length-set, set}
-use Rattle.numbers.specs.Numbers.{signedByte, signedWord, signedLong, word}
+use Rattle.numbers.specs.Numbers.{signedByte, signedWord, signedLong, low32}
 use Rattle.memory.specs.Access.{accessible, loaded, storedAt}
 use Rattle.memory.proofs.Bytes.{Bytes}
 use Rattle.memory.proofs.Laws.{load-small, store-keeps-bytes}
@@ -47,7 +47,7 @@ use Rattle.instructions.specs.declared.control.Control.{Control}
 use Rattle.instructions.specs.declared.control.Flow.{Flow}
 use Rattle.instructions.specs.declared.control.Flow.the-variants.{Next, Jump, Delay, Sleep as Sleeps, Trap, Fault, Illegal}
 use Rattle.instructions.proofs.Cases.{by-load, by-store}
-use Rattle.instructions.proofs.Bounds.{word-below, low-bits-below, part-below, and-below, not-below, swapB-below, xtrct-below, rotl-below, rotr-below, muluW-below, div1-below, MacBelow, dmulsL-below, dmuluL-below, macL-below, macW-below}
+use Rattle.instructions.proofs.Bounds.{low32-below, low-bits-below, part-below, and-below, complement-below, swapB-below, xtrct-below, rotl-below, rotr-below, muluW-below, div1-below, MacBelow, dmulsL-below, dmuluL-below, macL-below, macW-below}
 use Rattle.instructions.proofs.Families.{load, store, load-increment, store-decrement, load-control, load-control-long, store-control, store-control-long}
 use Rattle.instructions.proofs.Status.{masked-below, masked-again, t-masked, mqt-masked}
 
@@ -174,7 +174,7 @@ module _ {s : State} (r : StateInRange s) where
   mqt-changed m q t = control-changed r (sr-changed (r .control) (mqt-masked (s .control .sr) (r .control .sr) m q t))
 
   stepped : (k n : ℕ) → StateInRange (steppedOn k n s)
-  stepped k n = register-changed r n (word-below (reg n s + k))
+  stepped k n = register-changed r n (low32-below (reg n s + k))
 
   multiplies : {a : Mac} → MacBelow a → EffectInRange (givesMac a s)
   multiplies below = onward (control-changed r (mac-changed (r .control) (below .mach) (below .macl)))
@@ -182,8 +182,8 @@ module _ {s : State} (r : StateInRange s) where
   multiplies-low : {v : ℕ} → v < 2 ^ 32 → EffectInRange (givesMacl v s)
   multiplies-low below = onward (control-changed r (mac-changed (r .control) (r .control .mach) below))
 
-  returns : StateInRange (changed (withPr (word (s .control .pc + 4))) s)
-  returns = control-changed r (pr-changed (r .control) (word-below (s .control .pc + 4)))
+  returns : StateInRange (changed (withPr (low32 (s .control .pc + 4))) s)
+  returns = control-changed r (pr-changed (r .control) (low32-below (s .control .pc + 4)))
 
   faults : EffectInRange (leads Fault s)
   faults = record { after = r; target = tt }
@@ -219,40 +219,40 @@ executes (NoOperand Div0u) s fits r = onward (mqt-changed r 0 0 0)
 executes (NoOperand Nop) s fits r = onward r
 executes (NoOperand Sett) s fits r = onward (t-changed r 1)
 executes (NoOperand Sleep) s fits r = record { after = r; target = tt }
-executes (OneRegister Dt n) s fits r = intoT r n _ (word-below _)
+executes (OneRegister Dt n) s fits r = intoT r n _ (low32-below _)
 executes (OneRegister Movt n) s fits r = into r n (omega arith)
-executes (OneRegister Rotcl n) s fits r = intoT r n _ (word-below _)
-executes (OneRegister Rotcr n) s fits r = intoT r n _ (word-below _)
+executes (OneRegister Rotcl n) s fits r = intoT r n _ (low32-below _)
+executes (OneRegister Rotcr n) s fits r = intoT r n _ (low32-below _)
 executes (OneRegister Rotl n) s fits r = intoT r n _ (rotl-below (reg-below r n))
 executes (OneRegister Rotr n) s fits r = intoT r n _ (rotr-below (reg-below r n))
-executes (OneRegister Shal n) s fits r = intoT r n _ (word-below _)
+executes (OneRegister Shal n) s fits r = intoT r n _ (low32-below _)
 executes (OneRegister Shar n) s fits r = intoT r n _ (low-bits-below 32 (shrZ (signedLong (reg n s)) 2))
-executes (OneRegister Shll n) s fits r = intoT r n _ (word-below _)
-executes (OneRegister Shll2 n) s fits r = into r n (word-below _)
-executes (OneRegister Shll8 n) s fits r = into r n (word-below _)
-executes (OneRegister Shll16 n) s fits r = into r n (word-below _)
+executes (OneRegister Shll n) s fits r = intoT r n _ (low32-below _)
+executes (OneRegister Shll2 n) s fits r = into r n (low32-below _)
+executes (OneRegister Shll8 n) s fits r = into r n (low32-below _)
+executes (OneRegister Shll16 n) s fits r = into r n (low32-below _)
 executes (OneRegister Shlr n) s fits r = intoT r n _ (part-below 2 (reg-below r n))
 executes (OneRegister Shlr2 n) s fits r = into r n (part-below (2 ^ 2) (reg-below r n))
 executes (OneRegister Shlr8 n) s fits r = into r n (part-below (2 ^ 8) (reg-below r n))
 executes (OneRegister Shlr16 n) s fits r = into r n (part-below (2 ^ 16) (reg-below r n))
 executes (CompareZero CmpPl n) s fits r = onward (t-changed r _)
 executes (CompareZero CmpPz n) s fits r = onward (t-changed r _)
-executes (TwoRegisters Add m n) s fits r = into r n (word-below _)
-executes (TwoRegisters Addc m n) s fits r = intoT r n _ (word-below _)
-executes (TwoRegisters Addv m n) s fits r = intoT r n _ (word-below _)
+executes (TwoRegisters Add m n) s fits r = into r n (low32-below _)
+executes (TwoRegisters Addc m n) s fits r = intoT r n _ (low32-below _)
+executes (TwoRegisters Addv m n) s fits r = intoT r n _ (low32-below _)
 executes (TwoRegisters And m n) s fits r = into r n (and-below (reg m s) (reg-below r n))
 executes (TwoRegisters ExtsB m n) s fits r = into r n (low-bits-below 32 (signedByte (reg m s % 2 ^ 8)))
 executes (TwoRegisters ExtsW m n) s fits r = into r n (low-bits-below 32 (signedWord (reg m s % 2 ^ 16)))
 executes (TwoRegisters ExtuB m n) s fits r = into r n (omega arith)
 executes (TwoRegisters ExtuW m n) s fits r = into r n (omega arith)
 executes (TwoRegisters Mov m n) s fits r = into r n (reg-below r m)
-executes (TwoRegisters Neg m n) s fits r = into r n (word-below _)
-executes (TwoRegisters Negc m n) s fits r = intoT r n _ (word-below _)
-executes (TwoRegisters Not m n) s fits r = into r n (not-below (reg m s))
+executes (TwoRegisters Neg m n) s fits r = into r n (low32-below _)
+executes (TwoRegisters Negc m n) s fits r = intoT r n _ (low32-below _)
+executes (TwoRegisters Not m n) s fits r = into r n (complement-below (reg m s))
 executes (TwoRegisters Or m n) s fits r = into r n (or-lt 32 (reg n s) (reg m s) (reg-below r n) (reg-below r m))
-executes (TwoRegisters Sub m n) s fits r = into r n (word-below _)
-executes (TwoRegisters Subc m n) s fits r = intoT r n _ (word-below _)
-executes (TwoRegisters Subv m n) s fits r = intoT r n _ (word-below _)
+executes (TwoRegisters Sub m n) s fits r = into r n (low32-below _)
+executes (TwoRegisters Subc m n) s fits r = intoT r n _ (low32-below _)
+executes (TwoRegisters Subv m n) s fits r = intoT r n _ (low32-below _)
 executes (TwoRegisters SwapB m n) s fits r = into r n (swapB-below (reg-below r m))
 executes (TwoRegisters SwapW m n) s fits r = into r n (xtrct-below (reg m s) (reg-below r m))
 executes (TwoRegisters Xor m n) s fits r = into r n (xor-lt 32 (reg n s) (reg m s) (reg-below r n) (reg-below r m))
@@ -269,7 +269,7 @@ executes (Divide Div1 m n) s fits r =
     onward (mqt-changed (register-changed r n (div1-below (reg m s) (reg n s) (mBit s) (qBit s) (tBit s))) _ _ _)
 executes (Multiply DmulsL m n) s fits r = multiplies r (dmulsL-below (reg m s) (reg n s))
 executes (Multiply DmuluL m n) s fits r = multiplies r (dmuluL-below (reg-below r m) (reg-below r n))
-executes (Multiply MulL m n) s fits r = multiplies-low r (word-below _)
+executes (Multiply MulL m n) s fits r = multiplies-low r (low32-below _)
 executes (Multiply MulsW m n) s fits r =
     multiplies-low r (low-bits-below 32 (signedWord (reg n s % 2 ^ 16) *ℤ signedWord (reg m s % 2 ^ 16)))
 executes (Multiply MuluW m n) s fits r = multiplies-low r (muluW-below (reg m s) (reg n s))
@@ -282,7 +282,7 @@ executes (MultiplyAdd MacW m n) s fits r =
     (λ a _.
     multiplies (stepped (stepped r 2 n) 2 m)
     (macW-below (record { mach = r .control .mach; macl = r .control .macl }) (sBit s) a b)))
-executes (Immediate AddImm i n) s fits r = into r n (word-below _)
+executes (Immediate AddImm i n) s fits r = into r n (low32-below _)
 executes (Immediate MovImm i n) s fits r = into r n (low-bits-below 32 (signedByte (i % 2 ^ 8)))
 executes (ImmediateR0 AndImm i) s fits r = into r 0 (and-below i (reg-below r 0))
 executes (ImmediateR0 CmpEqImm i) s fits r = onward (t-changed r _)
@@ -299,10 +299,10 @@ executes (LoadIncrement size m n) s fits r =
     rw (load-increment size m n s) (loads r _ _ (λ v small. into (stepped r (bytes size) m) n (extended-below size v small)))
 executes (Store size m address) s fits r = rw (store size m address s) (stores r _ _ _ r)
 executes (StoreDecrement size m n) s fits r =
-    rw (store-decrement size m n s) (stores r _ _ _ (register-changed r n (word-below _)))
+    rw (store-decrement size m n s) (stores r _ _ _ (register-changed r n (low32-below _)))
 executes (Relative MovW d n) s fits r = loads r 2 _ (λ v small. into r n (extended-below Word v small))
 executes (Relative MovL d n) s fits r = loads r 4 _ (λ v small. into r n small)
-executes (Relative Mova d n) s fits r = into r n (word-below _)
+executes (Relative Mova d n) s fits r = into r n (low32-below _)
 executes (LoadControl register m) s fits r =
     rw (load-control register m s) (onward (control-changed r (loaded-control (r .control) register (reg m s) (reg-below r m))))
 executes (LoadControlLong register m) s fits r =
@@ -310,16 +310,16 @@ executes (LoadControlLong register m) s fits r =
     (loads r 4 _ (λ v small. onward (control-changed (stepped r 4 m) (loaded-control (r .control) register v small))))
 executes (StoreControl register n) s fits r = rw (store-control register n s) (into r n (stored-control (r .control) register))
 executes (StoreControlLong register n) s fits r =
-    rw (store-control-long register n s) (stores r _ _ _ (register-changed r n (word-below _)))
+    rw (store-control-long register n s) (stores r _ _ _ (register-changed r n (low32-below _)))
 executes (TasB n) s fits r = loads r 1 _ (λ v _. stores r _ _ _ (t-changed r _))
-executes (BranchIf Bf d) s fits r = branches-if r (eqb (tBit s) 0) (Jump _) (word-below _)
-executes (BranchIf BfS d) s fits r = branches-if r (eqb (tBit s) 0) (Delay _) (word-below _)
-executes (BranchIf Bt d) s fits r = branches-if r (eqb (tBit s) 1) (Jump _) (word-below _)
-executes (BranchIf BtS d) s fits r = branches-if r (eqb (tBit s) 1) (Delay _) (word-below _)
-executes (Branch Bra d) s fits r = delays (word-below _) r
-executes (Branch Bsr d) s fits r = delays (word-below _) (returns r)
-executes (BranchTo Braf m) s fits r = delays (word-below _) r
-executes (BranchTo Bsrf m) s fits r = delays (word-below _) (returns r)
+executes (BranchIf Bf d) s fits r = branches-if r (eqb (tBit s) 0) (Jump _) (low32-below _)
+executes (BranchIf BfS d) s fits r = branches-if r (eqb (tBit s) 0) (Delay _) (low32-below _)
+executes (BranchIf Bt d) s fits r = branches-if r (eqb (tBit s) 1) (Jump _) (low32-below _)
+executes (BranchIf BtS d) s fits r = branches-if r (eqb (tBit s) 1) (Delay _) (low32-below _)
+executes (Branch Bra d) s fits r = delays (low32-below _) r
+executes (Branch Bsr d) s fits r = delays (low32-below _) (returns r)
+executes (BranchTo Braf m) s fits r = delays (low32-below _) r
+executes (BranchTo Bsrf m) s fits r = delays (low32-below _) (returns r)
 executes (BranchTo Jmp m) s fits r = delays (reg-below r m) r
 executes (BranchTo Jsr m) s fits r = delays (reg-below r m) (returns r)
 executes (Return Rte) s fits r =

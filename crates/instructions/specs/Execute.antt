@@ -2,11 +2,12 @@
 -- the instruction: Rm, Rn, T and the rest are its values there, and the PC is the instruction's own address.
 use mathlib.Core.Bool.{Bool, _&&_, cond}
 use Prim.Native.Nat.{ℕ, _+_, _^_}
+use lib.Bits.{bitAnd, bitOr, bitXor}
 use lib.Dec.{eqb}
-use Rattle.numbers.specs.Numbers.{truth, word}
+use Rattle.numbers.specs.Numbers.{truth, low32}
 use Rattle.arithmetic.specs.Addresses.{following, branch, far, relativeWord, relativeLong}
 use Rattle.arithmetic.specs.Compares.{cmpEq, cmpGe, cmpGt, cmpHi, cmpHs, cmpPl, cmpPz, cmpStr}
-use Rattle.arithmetic.specs.Logic.{«and», «not», «or», tst, xor}
+use Rattle.arithmetic.specs.Logic.{complement, tst}
 use Rattle.arithmetic.specs.Sums.{add, addc, addv, dt, neg, negc, sub, subc, subv}
 use Rattle.arithmetic.specs.Transfers.{extsB, extsW, extuB, extuW, movt, swapB, swapW, xtrct}
 use Rattle.divide.specs.Divide.{div0s, div0u, div1}
@@ -48,27 +49,27 @@ execute (TwoRegisters Addc m n) s = givesT n (addc (reg m s) (reg n s) (tBit s))
 -- 6.4 ADDV Rm,Rn
 execute (TwoRegisters Addv m n) s = givesT n (addv (reg m s) (reg n s)) s
 -- 6.5 AND #imm,R0
-execute (ImmediateR0 AndImm i) s = gives 0 («and» i (reg 0 s)) s
+execute (ImmediateR0 AndImm i) s = gives 0 (bitAnd (reg 0 s) i) s
 -- 6.5 AND Rm,Rn
-execute (TwoRegisters And m n) s = gives n («and» (reg m s) (reg n s)) s
+execute (TwoRegisters And m n) s = gives n (bitAnd (reg n s) (reg m s)) s
 -- 6.5 AND.B #imm,@(R0,GBR)
-execute (ImmediateByte AndB i) s = byteBecomes (λ v. «and» i v) s
+execute (ImmediateByte AndB i) s = byteBecomes (λ v. bitAnd v i) s
 -- 6.6 BF label
-execute (BranchIf Bf d) s = leads (cond (eqb (tBit s) 0) (Jump (branch (2 ^ 7) (s .control .pc) d)) Next) s
+execute (BranchIf Bf d) s = leads (cond (eqb (tBit s) 0) (Jump (branch (2 ^ 7) (following (s .control .pc)) d)) Next) s
 -- 6.7 BF/S label
-execute (BranchIf BfS d) s = leads (cond (eqb (tBit s) 0) (Delay (branch (2 ^ 7) (s .control .pc) d)) Next) s
+execute (BranchIf BfS d) s = leads (cond (eqb (tBit s) 0) (Delay (branch (2 ^ 7) (following (s .control .pc)) d)) Next) s
 -- 6.8 BRA label
-execute (Branch Bra d) s = leads (Delay (branch (2 ^ 11) (s .control .pc) d)) s
+execute (Branch Bra d) s = leads (Delay (branch (2 ^ 11) (following (s .control .pc)) d)) s
 -- 6.9 BRAF Rm
-execute (BranchTo Braf m) s = leads (Delay (far (s .control .pc) (reg m s))) s
+execute (BranchTo Braf m) s = leads (Delay (far (following (s .control .pc)) (reg m s))) s
 -- 6.10 BSR label
-execute (Branch Bsr d) s = leads (Delay (branch (2 ^ 11) (s .control .pc) d)) (changed (withPr (following (s .control .pc))) s)
+execute (Branch Bsr d) s = leads (Delay (branch (2 ^ 11) (following (s .control .pc)) d)) (changed (withPr (following (s .control .pc))) s)
 -- 6.11 BSRF Rm
-execute (BranchTo Bsrf m) s = leads (Delay (far (s .control .pc) (reg m s))) (changed (withPr (following (s .control .pc))) s)
+execute (BranchTo Bsrf m) s = leads (Delay (far (following (s .control .pc)) (reg m s))) (changed (withPr (following (s .control .pc))) s)
 -- 6.12 BT label
-execute (BranchIf Bt d) s = leads (cond (eqb (tBit s) 1) (Jump (branch (2 ^ 7) (s .control .pc) d)) Next) s
+execute (BranchIf Bt d) s = leads (cond (eqb (tBit s) 1) (Jump (branch (2 ^ 7) (following (s .control .pc)) d)) Next) s
 -- 6.13 BT/S label
-execute (BranchIf BtS d) s = leads (cond (eqb (tBit s) 1) (Delay (branch (2 ^ 7) (s .control .pc) d)) Next) s
+execute (BranchIf BtS d) s = leads (cond (eqb (tBit s) 1) (Delay (branch (2 ^ 7) (following (s .control .pc)) d)) Next) s
 -- 6.14 CLRMAC
 execute (NoOperand Clrmac) s = next (changed (withMac 0 0) s)
 -- 6.15 CLRT
@@ -170,7 +171,7 @@ execute (Store Byte m (Indirect r)) s = storing 1 (effective Byte (Indirect r) s
 -- 6.34 MOV.L @(disp,GBR),R0
 execute (Load Long (GbrDisplacement d) n) s = loading 4 (effective Long (GbrDisplacement d) s) (λ v. gives n (extended Long v) s) s
 -- 6.33 MOV.L @(disp,PC),Rn
-execute (Relative MovL d n) s = loading 4 (relativeLong (s .control .pc) d) (λ v. gives n v s) s
+execute (Relative MovL d n) s = loading 4 (relativeLong (following (s .control .pc)) d) (λ v. gives n v s) s
 -- 6.35 MOV.L @(disp,Rm),Rn
 execute (Load Long (Displacement d r) n) s = loading 4 (effective Long (Displacement d r) s) (λ v. gives n (extended Long v) s) s
 -- 6.32 MOV.L @(R0,Rm),Rn
@@ -192,7 +193,7 @@ execute (Store Long m (Indirect r)) s = storing 4 (effective Long (Indirect r) s
 -- 6.34 MOV.W @(disp,GBR),R0
 execute (Load Word (GbrDisplacement d) n) s = loading 2 (effective Word (GbrDisplacement d) s) (λ v. gives n (extended Word v) s) s
 -- 6.33 MOV.W @(disp,PC),Rn
-execute (Relative MovW d n) s = loading 2 (relativeWord (s .control .pc) d) (λ v. gives n (extsW v) s) s
+execute (Relative MovW d n) s = loading 2 (relativeWord (following (s .control .pc)) d) (λ v. gives n (extsW v) s) s
 -- 6.35 MOV.W @(disp,Rm),R0
 execute (Load Word (Displacement d r) n) s = loading 2 (effective Word (Displacement d r) s) (λ v. gives n (extended Word v) s) s
 -- 6.32 MOV.W @(R0,Rm),Rn
@@ -212,7 +213,7 @@ execute (StoreDecrement Word m n) s = storing 2 (steppedBack 2 n s) (reg m s) (w
 -- 6.32 MOV.W Rm,@Rn
 execute (Store Word m (Indirect r)) s = storing 2 (effective Word (Indirect r) s) (reg m s) s s
 -- 6.36 MOVA @(disp,PC),R0
-execute (Relative Mova d n) s = gives n (relativeLong (s .control .pc) d) s
+execute (Relative Mova d n) s = gives n (relativeLong (following (s .control .pc)) d) s
 -- 6.37 MOVT Rn
 execute (OneRegister Movt n) s = gives n (movt (tBit s)) s
 -- 6.38 MUL.L Rm,Rn
@@ -228,13 +229,13 @@ execute (TwoRegisters Negc m n) s = givesT n (negc (reg m s) (tBit s)) s
 -- 6.43 NOP
 execute (NoOperand Nop) s = next s
 -- 6.44 NOT Rm,Rn
-execute (TwoRegisters Not m n) s = gives n («not» (reg m s)) s
+execute (TwoRegisters Not m n) s = gives n (complement (reg m s)) s
 -- 6.45 OR #imm,R0
-execute (ImmediateR0 OrImm i) s = gives 0 («or» i (reg 0 s)) s
+execute (ImmediateR0 OrImm i) s = gives 0 (bitOr (reg 0 s) i) s
 -- 6.45 OR Rm,Rn
-execute (TwoRegisters Or m n) s = gives n («or» (reg m s) (reg n s)) s
+execute (TwoRegisters Or m n) s = gives n (bitOr (reg n s) (reg m s)) s
 -- 6.45 OR.B #imm,@(R0,GBR)
-execute (ImmediateByte OrB i) s = byteBecomes (λ v. «or» i v) s
+execute (ImmediateByte OrB i) s = byteBecomes (λ v. bitOr v i) s
 -- 6.46 ROTCL Rn
 execute (OneRegister Rotcl n) s = givesT n (rotcl (reg n s) (tBit s)) s
 -- 6.47 ROTCR Rn
@@ -244,7 +245,7 @@ execute (OneRegister Rotl n) s = givesT n (rotl (reg n s)) s
 -- 6.49 ROTR Rn
 execute (OneRegister Rotr n) s = givesT n (rotr (reg n s)) s
 -- 6.50 RTE
-execute (Return Rte) s = loading 4 (reg 15 s) (λ p. loading 4 (word (reg 15 s + 4)) (λ v. leads (Delay p) (changed (withSr (masked v)) (steppedOn 8 15 s))) s) s
+execute (Return Rte) s = loading 4 (reg 15 s) (λ p. loading 4 (low32 (reg 15 s + 4)) (λ v. leads (Delay p) (changed (withSr (masked v)) (steppedOn 8 15 s))) s) s
 -- 6.51 RTS
 execute (Return Rts) s = leads (Delay (s .control .pr)) s
 -- 6.52 SETT
@@ -306,7 +307,7 @@ execute (TwoRegisters SwapB m n) s = gives n (swapB (reg m s)) s
 -- 6.65 SWAP.W Rm,Rn
 execute (TwoRegisters SwapW m n) s = gives n (swapW (reg m s)) s
 -- 6.66 TAS.B @Rn
-execute (TasB n) s = loading 1 (reg n s) (λ v. storing 1 (reg n s) («or» 0x80 v) (changed (withT (truth (eqb v 0))) s) s) s
+execute (TasB n) s = loading 1 (reg n s) (λ v. storing 1 (reg n s) (bitOr v 0x80) (changed (withT (truth (eqb v 0))) s) s) s
 -- 6.67 TRAPA #imm
 execute (Trapa i) s = leads (Trap i) s
 -- 6.68 TST #imm,R0
@@ -316,11 +317,11 @@ execute (Compare Tst m n) s = tells (tst (reg m s) (reg n s)) s
 -- 6.68 TST.B #imm,@(R0,GBR)
 execute (ImmediateByte TstB i) s = loading 1 (gbrIndexed s) (λ v. tells (tst i v) s) s
 -- 6.69 XOR #imm,R0
-execute (ImmediateR0 XorImm i) s = gives 0 (xor i (reg 0 s)) s
+execute (ImmediateR0 XorImm i) s = gives 0 (bitXor (reg 0 s) i) s
 -- 6.69 XOR Rm,Rn
-execute (TwoRegisters Xor m n) s = gives n (xor (reg m s) (reg n s)) s
+execute (TwoRegisters Xor m n) s = gives n (bitXor (reg n s) (reg m s)) s
 -- 6.69 XOR.B #imm,@(R0,GBR)
-execute (ImmediateByte XorB i) s = byteBecomes (λ v. xor i v) s
+execute (ImmediateByte XorB i) s = byteBecomes (λ v. bitXor v i) s
 -- 6.70 XTRCT Rm,Rn
 execute (TwoRegisters Xtrct m n) s = gives n (xtrct (reg m s) (reg n s)) s
 -- A word that the code table lacks.

@@ -2,7 +2,7 @@
 use mathlib.Core.Bool.{Bool, cond}
 use mathlib.Core.List.{List}
 use Prim.Native.Nat.{ℕ, _+_, _*_, _-_, _^_}
-use Rattle.numbers.specs.Numbers.{word}
+use Rattle.numbers.specs.Numbers.{low32}
 use Rattle.numbers.specs.declared.WithT.{WithT}
 use Rattle.multiply.specs.declared.Mac.{Mac}
 use Rattle.arithmetic.specs.Transfers.{extsB, extsW}
@@ -78,19 +78,19 @@ extended Long v = v
 -- Effective addresses (section 4.2), modulo 2^32; a displacement counts in units of the size.
 abbrev pub effective : Size → Address → State → ℕ
 effective size (Indirect r) s = reg r s
-effective size (Indexed r) s = word (reg 0 s + reg r s)
-effective size (Displacement d r) s = word (reg r s + d * bytes size)
-effective size (GbrDisplacement d) s = word (s .control .gbr + d * bytes size)
+effective size (Indexed r) s = low32 (reg 0 s + reg r s)
+effective size (Displacement d r) s = low32 (reg r s + d * bytes size)
+effective size (GbrDisplacement d) s = low32 (s .control .gbr + d * bytes size)
 
 abbrev pub gbrIndexed : State → ℕ
-gbrIndexed s = word (s .control .gbr + reg 0 s)
+gbrIndexed s = low32 (s .control .gbr + reg 0 s)
 
 -- Rn stepped on by k, and back by k.
 abbrev pub steppedOn : ℕ → ℕ → State → State
-steppedOn k n s = withReg n (word (reg n s + k)) s
+steppedOn k n s = withReg n (low32 (reg n s + k)) s
 
 abbrev pub steppedBack : ℕ → ℕ → State → ℕ
-steppedBack k n s = word (reg n s + 2 ^ 32 - k)
+steppedBack k n s = low32 (reg n s + 2 ^ 32 - k)
 
 -- AND.B, OR.B and XOR.B: the byte at @(R0,GBR) is read, and f of it stored there.
 abbrev pub byteBecomes : (ℕ → ℕ) → State → Effect

@@ -18,7 +18,7 @@ use Rattle.instructions.specs.Shapes.{steppedBack}
 use Rattle.instructions.specs.State.{State, changed, withPc}
 use Rattle.instructions.specs.declared.control.Flow.{Flow}
 use Rattle.instructions.specs.declared.control.Flow.the-variants.{Next, Jump, Delay, Sleep, Trap, Fault, Illegal}
-use Rattle.instructions.proofs.Bounds.{word-below}
+use Rattle.instructions.proofs.Bounds.{low32-below}
 use Rattle.instructions.proofs.Effects.{attempt-keeps-length}
 use Rattle.instructions.proofs.Ranges.{StateInRange, TargetInRange, Below, register-changed, control-changed, memory-changed, pc-changed, attempt-in-range}
 use Rattle.machine.specs.Exceptions.{Situation, at, enter, pushed, vector, savedPc, addressError}
@@ -59,7 +59,7 @@ enters {s} r number saved =
     (record {
       state =
           control-changed
-          (memory-changed (register-changed r 15 (word-below _)) (pushed saved s) (pushed-bytes saved s (r .memory)))
+          (memory-changed (register-changed r 15 (low32-below _)) (pushed saved s) (pushed-bytes saved s (r .memory)))
           (pc-changed (r .control) (value-small 4 (pushed saved s) (vector number s) (pushed-bytes saved s (r .memory))));
       mode = tt;
     })
@@ -79,7 +79,7 @@ goes mode target below r = record { state = control-changed r (pc-changed (r .co
 delays :
     (mode : Mode) {target : ℕ} {before after : State} → StateInRange before → StateInRange after → target < 2 ^ 32 →
     InRange (delayed mode target before after)
-delays Running r q below = goes (Slot _) below (word-below _) q
+delays Running r q below = goes (Slot _) below (low32-below _) q
 delays (Slot waiting) r q below = record { state = r; mode = tt }
 delays Asleep r q below = record { state = r; mode = tt }
 delays (Stopped reason) r q below = record { state = r; mode = tt }
@@ -87,10 +87,10 @@ delays (Stopped reason) r q below = record { state = r; mode = tt }
 settles :
     (flow : Flow) (mode : Mode) {before after : State} → ModeInRange mode → StateInRange before → StateInRange after →
     TargetInRange flow → InRange (settle flow mode before after)
-settles Next mode waiting r q below = goes Running tt (saved-below mode waiting (word-below _)) q
+settles Next mode waiting r q below = goes Running tt (saved-below mode waiting (low32-below _)) q
 settles (Jump target) mode waiting r q below = goes Running tt below q
 settles (Delay target) mode waiting r q below = delays mode r q below
-settles Sleep mode waiting r q below = goes Asleep tt (saved-below mode waiting (word-below _)) q
+settles Sleep mode waiting r q below = goes Asleep tt (saved-below mode waiting (low32-below _)) q
 settles (Trap number) mode waiting r q below = enters r number _
 settles Fault mode waiting r q below = enters r addressError _
 settles Illegal mode waiting r q below = enters r (illegalNumber mode) _

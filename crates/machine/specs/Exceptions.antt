@@ -2,7 +2,7 @@
 use mathlib.Core.Bool.{_&&_, cond}
 use mathlib.Core.List.{List}
 use Prim.Native.Nat.{ℕ, _+_, _*_}
-use Rattle.numbers.specs.Numbers.{word}
+use Rattle.numbers.specs.Numbers.{low32}
 use Rattle.memory.specs.Access.{accessible, storedAt, valueAt}
 use Rattle.instructions.specs.State.{State, withReg, withMemory, changed, withPc}
 use Rattle.instructions.specs.Shapes.{steppedBack}
@@ -45,7 +45,7 @@ pushed saved s =
 
 -- "VBR + 4 x number"
 abbrev pub vector : ℕ → State → ℕ
-vector number s = word (s .control .vbr + 4 * number)
+vector number s = low32 (s .control .vbr + 4 * number)
 
 -- "R15 falls by 8, then PC becomes the long at VBR + 4 x number (read after the two stores), and the mode is running. SR keeps its
 -- value."

@@ -1,7 +1,7 @@
 -- One step: document 01, "One step".
 use mathlib.Core.Bool.{Bool, true, false, cond}
 use Prim.Native.Nat.{ℕ, _+_}
-use Rattle.numbers.specs.Numbers.{word}
+use Rattle.numbers.specs.Numbers.{low32}
 use Rattle.memory.specs.Access.{loaded}
 use Rattle.memory.specs.declared.Loaded.{Loaded}
 use Rattle.memory.specs.declared.Loaded.the-variants as loads
@@ -19,7 +19,7 @@ use Rattle.machine.specs.Exceptions.{Situation, at, savedPc, enter, gene
 
 -- The next word, or in a slot the target.
 abbrev pub nextPc : Mode → State → ℕ
-nextPc mode s = savedPc mode (word (s .control .pc + 2))
+nextPc mode s = savedPc mode (low32 (s .control .pc + 2))
 
 -- Item 3, "In a slot: an undefined word, or one that rewrites the PC, is an illegal slot. Not in a slot: an undefined word is a general
 -- illegal instruction."
@@ -35,7 +35,7 @@ illegalNumber mode = cond (inSlot mode) illegalSlot generalIllegal
 -- A taken delayed branch: "PC moves on by 2 and the mode becomes "in a slot" with the target"; "reason 3: a delayed branch is taken
 -- while another's target still waits"
 abbrev pub delayed : Mode → ℕ → State → State → Situation
-delayed Running target before after = at (Slot target) (changed (withPc (word (after .control .pc + 2))) after)
+delayed Running target before after = at (Slot target) (changed (withPc (low32 (after .control .pc + 2))) after)
 delayed (Slot waiting) target before after = at (Stopped Branch) before
 delayed Asleep target before after = at Asleep before
 delayed (Stopped reason) target before after = at (Stopped reason) before

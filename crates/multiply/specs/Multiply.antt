@@ -5,7 +5,7 @@ use Prim.Native.Nat.{ℕ, _+_, _*_, _-_, _/_, _%_, _^_}
 use lib.Dec.{eqb}
 use lib.IntN.{ℤ, pos, negsuc, _+ℤ_, _*ℤ_}
 use lib.Signed.{ltZ}
-use Rattle.numbers.specs.Numbers.{word, signed, signedWord, signedLong, lowLong, lowQuad}
+use Rattle.numbers.specs.Numbers.{low32, signed, signedWord, signedLong, lowLong, lowQuad}
 use Rattle.multiply.specs.declared.Mac.{Mac}
 
 -- 64 bits, as MACH and MACL.
@@ -26,7 +26,7 @@ dmuluL m n = split (n * m)
 
 -- 6.38 MUL.L: MACL
 abbrev pub mulL : ℕ → ℕ → ℕ
-mulL m n = word (n * m)
+mulL m n = low32 (n * m)
 
 -- 6.39 MULS.W: MACL
 abbrev pub mulsW : ℕ → ℕ → ℕ

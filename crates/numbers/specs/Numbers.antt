@@ -11,8 +11,8 @@ truth true = 1
 truth false = 0
 
 -- The low 32 bits: "address sums are taken modulo 2^32", as are those of registers.
-abbrev pub word : ℕ → ℕ
-word x = x % 2 ^ 32
+abbrev pub low32 : ℕ → ℕ
+low32 x = x % 2 ^ 32
 
 -- A number read as signed: from half the width's numbers up it stands for a negative one.
 abbrev pub signed : ℕ → ℕ → ℤ
