@@ -10,7 +10,7 @@ use Rattle.instructions.specs.State.{State}
 use Rattle.instructions.specs.declared.control.Flow.the-variants.{Fault}
 
 module _ (P : Effect → Type 0) (s : State) (faulted : P (leads Fault s)) where
-  pub by-load : (l : Loaded) (f : ℕ → Effect) → ((v : ℕ) → l ≡ loads.Value v → P (f v)) → P (afterLoad l f s)
+  pub by-load : (l : Loaded) (f : ℕ → Effect) → ((v : ℕ) → l ≡ loads.Value v → P (f v)) → P (afterLoad l s f)
   by-load (loads.Value v) f follows = follows v refl
   by-load loads.Fault f follows = faulted
 

@@ -6,7 +6,7 @@ use mathlib.Core.Bool.{Bool, true, false, _&&_, cond}
 use Prim.Native.Nat.{ℕ}
 use lib.ListN.{length}
 use Rattle.memory.specs.Access.{accessible, loaded}
-use Rattle.memory.proofs.Laws.{store-keeps-length}
+use Rattle.memory.proofs.Bytes.{length-written}
 use Rattle.decoder.specs.Slot.{rewritesPc}
 use Rattle.decoder.specs.declared.meaning.Meaning.{Meaning}
 use Rattle.decoder.specs.declared.meaning.Meaning.the-variants.{Undefined, NoOperand, OneRegister, CompareZero, TwoRegisters, Compare, Divide, Multiply, MultiplyAdd, Immediate, ImmediateR0, ImmediateByte, Load, LoadIncrement, Store, StoreDecrement, Relative, LoadControl, LoadControlLong, StoreControl, StoreControlLong, TasB, BranchIf, Branch, BranchTo, Return, Trapa}
@@ -29,7 +29,8 @@ use Rattle.decoder.specs.declared.meaning.Branch.the-variants.{Bra, Bsr}
 use Rattle.decoder.specs.declared.meaning.BranchTo.the-variants.{Braf, Bsrf, Jmp, Jsr}
 use Rattle.decoder.specs.declared.meaning.Return.the-variants.{Rte, Rts}
 use Rattle.instructions.specs.Execute.{attempted, execute}
-use Rattle.instructions.specs.Shapes.{Effect, leads, next, loading, withControlRegister}
+use Rattle.instructions.specs.Shapes.{Effect, leads, next, loading}
+use Rattle.instructions.specs.Promises.{withControlRegister}
 use Rattle.instructions.specs.State.{State}
 use Rattle.instructions.specs.declared.control.Flow.{Flow}
 use Rattle.instructions.specs.declared.control.Flow.the-variants.{Next, Jump, Delay, Sleep as Sleeps, Trap, Fault, Illegal}
@@ -98,7 +99,7 @@ faults rewrites s = record { unchanged = refl; allowed = straight-fault rewrites
 
 loads :
     {rewrites : Bool} {s : State} (k a : ℕ) {f : ℕ → Effect} → ((v : ℕ) → Orderly rewrites s (f v)) →
-    Orderly rewrites s (loading k a f s)
+    Orderly rewrites s (loading k a s f)
 loads {rewrites} {s} k a {f} follows =
     by-load (Orderly rewrites s) s (faults rewrites s) (loaded k (s .memory) a) f (λ v given. follows v)
 
@@ -114,106 +115,106 @@ register-keeps-pc Mach v c = refl
 register-keeps-pc Macl v c = refl
 register-keeps-pc Pr v c = refl
 
-orderly : (x : Meaning) (s : State) → Orderly (rewritesPc x) s (execute x s)
+orderly : (x : Meaning) (pc : ℕ) (s : State) → Orderly (rewritesPc x) s (execute x pc s)
 unfolding execute
-orderly Undefined s = record { unchanged = refl; allowed = tt; pc = refl; size = refl }
-orderly (NoOperand Clrmac) s = on refl refl
-orderly (NoOperand Clrt) s = on refl refl
-orderly (NoOperand Div0u) s = on refl refl
-orderly (NoOperand Nop) s = on refl refl
-orderly (NoOperand Sett) s = on refl refl
-orderly (NoOperand Sleep) s = record { unchanged = tt; allowed = tt; pc = refl; size = refl }
-orderly (OneRegister Dt n) s = on refl refl
-orderly (OneRegister Movt n) s = on refl refl
-orderly (OneRegister Rotcl n) s = on refl refl
-orderly (OneRegister Rotcr n) s = on refl refl
-orderly (OneRegister Rotl n) s = on refl refl
-orderly (OneRegister Rotr n) s = on refl refl
-orderly (OneRegister Shal n) s = on refl refl
-orderly (OneRegister Shar n) s = on refl refl
-orderly (OneRegister Shll n) s = on refl refl
-orderly (OneRegister Shll2 n) s = on refl refl
-orderly (OneRegister Shll8 n) s = on refl refl
-orderly (OneRegister Shll16 n) s = on refl refl
-orderly (OneRegister Shlr n) s = on refl refl
-orderly (OneRegister Shlr2 n) s = on refl refl
-orderly (OneRegister Shlr8 n) s = on refl refl
-orderly (OneRegister Shlr16 n) s = on refl refl
-orderly (CompareZero CmpPl n) s = on refl refl
-orderly (CompareZero CmpPz n) s = on refl refl
-orderly (TwoRegisters Add m n) s = on refl refl
-orderly (TwoRegisters Addc m n) s = on refl refl
-orderly (TwoRegisters Addv m n) s = on refl refl
-orderly (TwoRegisters And m n) s = on refl refl
-orderly (TwoRegisters ExtsB m n) s = on refl refl
-orderly (TwoRegisters ExtsW m n) s = on refl refl
-orderly (TwoRegisters ExtuB m n) s = on refl refl
-orderly (TwoRegisters ExtuW m n) s = on refl refl
-orderly (TwoRegisters Mov m n) s = on refl refl
-orderly (TwoRegisters Neg m n) s = on refl refl
-orderly (TwoRegisters Negc m n) s = on refl refl
-orderly (TwoRegisters Not m n) s = on refl refl
-orderly (TwoRegisters Or m n) s = on refl refl
-orderly (TwoRegisters Sub m n) s = on refl refl
-orderly (TwoRegisters Subc m n) s = on refl refl
-orderly (TwoRegisters Subv m n) s = on refl refl
-orderly (TwoRegisters SwapB m n) s = on refl refl
-orderly (TwoRegisters SwapW m n) s = on refl refl
-orderly (TwoRegisters Xor m n) s = on refl refl
-orderly (TwoRegisters Xtrct m n) s = on refl refl
-orderly (Compare CmpEq m n) s = on refl refl
-orderly (Compare CmpGe m n) s = on refl refl
-orderly (Compare CmpGt m n) s = on refl refl
-orderly (Compare CmpHi m n) s = on refl refl
-orderly (Compare CmpHs m n) s = on refl refl
-orderly (Compare CmpStr m n) s = on refl refl
-orderly (Compare Tst m n) s = on refl refl
-orderly (Divide Div0s m n) s = on refl refl
-orderly (Divide Div1 m n) s = on refl refl
-orderly (Multiply DmulsL m n) s = on refl refl
-orderly (Multiply DmuluL m n) s = on refl refl
-orderly (Multiply MulL m n) s = on refl refl
-orderly (Multiply MulsW m n) s = on refl refl
-orderly (Multiply MuluW m n) s = on refl refl
-orderly (MultiplyAdd MacL m n) s = loads _ _ (λ b. loads _ _ (λ a. on refl refl))
-orderly (MultiplyAdd MacW m n) s = loads _ _ (λ b. loads _ _ (λ a. on refl refl))
-orderly (Immediate AddImm i n) s = on refl refl
-orderly (Immediate MovImm i n) s = on refl refl
-orderly (ImmediateR0 AndImm i) s = on refl refl
-orderly (ImmediateR0 CmpEqImm i) s = on refl refl
-orderly (ImmediateR0 OrImm i) s = on refl refl
-orderly (ImmediateR0 TstImm i) s = on refl refl
-orderly (ImmediateR0 XorImm i) s = on refl refl
-orderly (ImmediateByte AndB i) s = loads _ _ (λ v. stores _ _ (on refl (store-keeps-length _ _ _ _)))
-orderly (ImmediateByte OrB i) s = loads _ _ (λ v. stores _ _ (on refl (store-keeps-length _ _ _ _)))
-orderly (ImmediateByte TstB i) s = loads _ _ (λ v. on refl refl)
-orderly (ImmediateByte XorB i) s = loads _ _ (λ v. stores _ _ (on refl (store-keeps-length _ _ _ _)))
-orderly (Load size address n) s = rw (load size address n s) (loads _ _ (λ v. on refl refl))
-orderly (LoadIncrement size m n) s = rw (load-increment size m n s) (loads _ _ (λ v. on refl refl))
-orderly (Store size m address) s = rw (store size m address s) (stores _ _ (on refl (store-keeps-length _ _ _ _)))
-orderly (StoreDecrement size m n) s = rw (store-decrement size m n s) (stores _ _ (on refl (store-keeps-length _ _ _ _)))
-orderly (Relative MovW d n) s = loads _ _ (λ v. on refl refl)
-orderly (Relative MovL d n) s = loads _ _ (λ v. on refl refl)
-orderly (Relative Mova d n) s = on refl refl
-orderly (LoadControl register m) s = rw (load-control register m s) (on (register-keeps-pc register _ (s .control)) refl)
-orderly (LoadControlLong register m) s =
-    rw (load-control-long register m s) (loads _ _ (λ v. on (register-keeps-pc register v (s .control)) refl))
-orderly (StoreControl register n) s = rw (store-control register n s) (on refl refl)
-orderly (StoreControlLong register n) s = rw (store-control-long register n s) (stores _ _ (on refl (store-keeps-length _ _ _ _)))
-orderly (TasB n) s = loads _ _ (λ v. stores _ _ (on refl (store-keeps-length _ _ _ _)))
-orderly (BranchIf Bf d) s = branches _ s
-orderly (BranchIf BfS d) s = branches _ s
-orderly (BranchIf Bt d) s = branches _ s
-orderly (BranchIf BtS d) s = branches _ s
-orderly (Branch Bra d) s = branches _ s
-orderly (Branch Bsr d) s = calls _ refl refl
-orderly (BranchTo Braf m) s = branches _ s
-orderly (BranchTo Bsrf m) s = calls _ refl refl
-orderly (BranchTo Jmp m) s = branches _ s
-orderly (BranchTo Jsr m) s = calls _ refl refl
-orderly (Return Rte) s = loads _ _ (λ p. loads _ _ (λ v. calls p refl refl))
-orderly (Return Rts) s = branches _ s
-orderly (Trapa i) s = branches _ s
+orderly Undefined pc s = record { unchanged = refl; allowed = tt; pc = refl; size = refl }
+orderly (NoOperand Clrmac) pc s = on refl refl
+orderly (NoOperand Clrt) pc s = on refl refl
+orderly (NoOperand Div0u) pc s = on refl refl
+orderly (NoOperand Nop) pc s = on refl refl
+orderly (NoOperand Sett) pc s = on refl refl
+orderly (NoOperand Sleep) pc s = record { unchanged = tt; allowed = tt; pc = refl; size = refl }
+orderly (OneRegister Dt n) pc s = on refl refl
+orderly (OneRegister Movt n) pc s = on refl refl
+orderly (OneRegister Rotcl n) pc s = on refl refl
+orderly (OneRegister Rotcr n) pc s = on refl refl
+orderly (OneRegister Rotl n) pc s = on refl refl
+orderly (OneRegister Rotr n) pc s = on refl refl
+orderly (OneRegister Shal n) pc s = on refl refl
+orderly (OneRegister Shar n) pc s = on refl refl
+orderly (OneRegister Shll n) pc s = on refl refl
+orderly (OneRegister Shll2 n) pc s = on refl refl
+orderly (OneRegister Shll8 n) pc s = on refl refl
+orderly (OneRegister Shll16 n) pc s = on refl refl
+orderly (OneRegister Shlr n) pc s = on refl refl
+orderly (OneRegister Shlr2 n) pc s = on refl refl
+orderly (OneRegister Shlr8 n) pc s = on refl refl
+orderly (OneRegister Shlr16 n) pc s = on refl refl
+orderly (CompareZero CmpPl n) pc s = on refl refl
+orderly (CompareZero CmpPz n) pc s = on refl refl
+orderly (TwoRegisters Add m n) pc s = on refl refl
+orderly (TwoRegisters Addc m n) pc s = on refl refl
+orderly (TwoRegisters Addv m n) pc s = on refl refl
+orderly (TwoRegisters And m n) pc s = on refl refl
+orderly (TwoRegisters ExtsB m n) pc s = on refl refl
+orderly (TwoRegisters ExtsW m n) pc s = on refl refl
+orderly (TwoRegisters ExtuB m n) pc s = on refl refl
+orderly (TwoRegisters ExtuW m n) pc s = on refl refl
+orderly (TwoRegisters Mov m n) pc s = on refl refl
+orderly (TwoRegisters Neg m n) pc s = on refl refl
+orderly (TwoRegisters Negc m n) pc s = on refl refl
+orderly (TwoRegisters Not m n) pc s = on refl refl
+orderly (TwoRegisters Or m n) pc s = on refl refl
+orderly (TwoRegisters Sub m n) pc s = on refl refl
+orderly (TwoRegisters Subc m n) pc s = on refl refl
+orderly (TwoRegisters Subv m n) pc s = on refl refl
+orderly (TwoRegisters SwapB m n) pc s = on refl refl
+orderly (TwoRegisters SwapW m n) pc s = on refl refl
+orderly (TwoRegisters Xor m n) pc s = on refl refl
+orderly (TwoRegisters Xtrct m n) pc s = on refl refl
+orderly (Compare CmpEq m n) pc s = on refl refl
+orderly (Compare CmpGe m n) pc s = on refl refl
+orderly (Compare CmpGt m n) pc s = on refl refl
+orderly (Compare CmpHi m n) pc s = on refl refl
+orderly (Compare CmpHs m n) pc s = on refl refl
+orderly (Compare CmpStr m n) pc s = on refl refl
+orderly (Compare Tst m n) pc s = on refl refl
+orderly (Divide Div0s m n) pc s = on refl refl
+orderly (Divide Div1 m n) pc s = on refl refl
+orderly (Multiply DmulsL m n) pc s = on refl refl
+orderly (Multiply DmuluL m n) pc s = on refl refl
+orderly (Multiply MulL m n) pc s = on refl refl
+orderly (Multiply MulsW m n) pc s = on refl refl
+orderly (Multiply MuluW m n) pc s = on refl refl
+orderly (MultiplyAdd MacL m n) pc s = loads _ _ (λ b. loads _ _ (λ a. on refl refl))
+orderly (MultiplyAdd MacW m n) pc s = loads _ _ (λ b. loads _ _ (λ a. on refl refl))
+orderly (Immediate AddImm i n) pc s = on refl refl
+orderly (Immediate MovImm i n) pc s = on refl refl
+orderly (ImmediateR0 AndImm i) pc s = on refl refl
+orderly (ImmediateR0 CmpEqImm i) pc s = on refl refl
+orderly (ImmediateR0 OrImm i) pc s = on refl refl
+orderly (ImmediateR0 TstImm i) pc s = on refl refl
+orderly (ImmediateR0 XorImm i) pc s = on refl refl
+orderly (ImmediateByte AndB i) pc s = loads _ _ (λ v. stores _ _ (on refl (length-written _ _ _ _)))
+orderly (ImmediateByte OrB i) pc s = loads _ _ (λ v. stores _ _ (on refl (length-written _ _ _ _)))
+orderly (ImmediateByte TstB i) pc s = loads _ _ (λ v. on refl refl)
+orderly (ImmediateByte XorB i) pc s = loads _ _ (λ v. stores _ _ (on refl (length-written _ _ _ _)))
+orderly (Load size address n) pc s = rw (load size address n pc s) (loads _ _ (λ v. on refl refl))
+orderly (LoadIncrement size m n) pc s = rw (load-increment size m n pc s) (loads _ _ (λ v. on refl refl))
+orderly (Store size m address) pc s = rw (store size m address pc s) (stores _ _ (on refl (length-written _ _ _ _)))
+orderly (StoreDecrement size m n) pc s = rw (store-decrement size m n pc s) (stores _ _ (on refl (length-written _ _ _ _)))
+orderly (Relative MovW d n) pc s = loads _ _ (λ v. on refl refl)
+orderly (Relative MovL d n) pc s = loads _ _ (λ v. on refl refl)
+orderly (Relative Mova d n) pc s = on refl refl
+orderly (LoadControl register m) pc s = rw (load-control register m pc s) (on (register-keeps-pc register _ (s .control)) refl)
+orderly (LoadControlLong register m) pc s =
+    rw (load-control-long register m pc s) (loads _ _ (λ v. on (register-keeps-pc register v (s .control)) refl))
+orderly (StoreControl register n) pc s = rw (store-control register n pc s) (on refl refl)
+orderly (StoreControlLong register n) pc s = rw (store-control-long register n pc s) (stores _ _ (on refl (length-written _ _ _ _)))
+orderly (TasB n) pc s = loads _ _ (λ v. stores _ _ (on refl (length-written _ _ _ _)))
+orderly (BranchIf Bf d) pc s = branches _ s
+orderly (BranchIf BfS d) pc s = branches _ s
+orderly (BranchIf Bt d) pc s = branches _ s
+orderly (BranchIf BtS d) pc s = branches _ s
+orderly (Branch Bra d) pc s = branches _ s
+orderly (Branch Bsr d) pc s = calls _ refl refl
+orderly (BranchTo Braf m) pc s = branches _ s
+orderly (BranchTo Bsrf m) pc s = calls _ refl refl
+orderly (BranchTo Jmp m) pc s = branches _ s
+orderly (BranchTo Jsr m) pc s = calls _ refl refl
+orderly (Return Rte) pc s = loads _ _ (λ p. loads _ _ (λ v. calls p refl refl))
+orderly (Return Rts) pc s = branches _ s
+orderly (Trapa i) pc s = branches _ s
 
 -- In a slot an instruction that rewrites the PC is not executed.
 attempts-with :
@@ -224,36 +225,36 @@ attempts-with true false s e done = done
 attempts-with false true s e done = done
 attempts-with false false s e done = done
 
-attempts : (slot : Bool) (x : Meaning) (s : State) → Orderly (cond slot false (rewritesPc x)) s (attempted slot x s)
+attempts : (slot : Bool) (x : Meaning) (pc : ℕ) (s : State) → Orderly (cond slot false (rewritesPc x)) s (attempted slot x pc s)
 unfolding attempted
-attempts slot x s = attempts-with slot (rewritesPc x) s (execute x s) (orderly x s)
+attempts slot x pc s = attempts-with slot (rewritesPc x) s (execute x pc s) (orderly x pc s)
 
 -- An instruction that raises an exception changes nothing.
-pub raising-changes-nothing : (x : Meaning) (s : State) → Unchanged (execute x s .flow) s (execute x s .after)
-raising-changes-nothing x s = orderly x s .unchanged
+pub raising-changes-nothing : (x : Meaning) (pc : ℕ) (s : State) → Unchanged (execute x pc s .flow) s (execute x pc s .after)
+raising-changes-nothing x pc s = orderly x pc s .unchanged
 
 pub attempt-changes-nothing :
-    (slot : Bool) (x : Meaning) (s : State) → Unchanged (attempted slot x s .flow) s (attempted slot x s .after)
-attempt-changes-nothing slot x s = attempts slot x s .unchanged
+    (slot : Bool) (x : Meaning) (pc : ℕ) (s : State) → Unchanged (attempted slot x pc s .flow) s (attempted slot x pc s .after)
+attempt-changes-nothing slot x pc s = attempts slot x pc s .unchanged
 
 -- Only an instruction that rewrites the PC jumps, delays or traps; in a slot none does.
-pub only-rewriting-delays : (x : Meaning) (s : State) → rewritesPc x ≡ false → Straight (execute x s .flow)
-only-rewriting-delays x s plain = rw plain at (orderly x s .allowed)
+pub only-rewriting-delays : (x : Meaning) (pc : ℕ) (s : State) → rewritesPc x ≡ false → Straight (execute x pc s .flow)
+only-rewriting-delays x pc s plain = rw plain at (orderly x pc s .allowed)
 
-pub no-branch-in-slot : (x : Meaning) (s : State) → Straight (attempted true x s .flow)
-no-branch-in-slot x s = attempts true x s .allowed
+pub no-branch-in-slot : (x : Meaning) (pc : ℕ) (s : State) → Straight (attempted true x pc s .flow)
+no-branch-in-slot x pc s = attempts true x pc s .allowed
 
 -- No instruction writes the PC.
-pub pc-stays : (x : Meaning) (s : State) → execute x s .after .control .pc ≡ s .control .pc
-pc-stays x s = orderly x s .pc
+pub pc-stays : (x : Meaning) (pc : ℕ) (s : State) → execute x pc s .after .control .pc ≡ s .control .pc
+pc-stays x pc s = orderly x pc s .pc
 
-pub attempt-keeps-pc : (slot : Bool) (x : Meaning) (s : State) → attempted slot x s .after .control .pc ≡ s .control .pc
-attempt-keeps-pc slot x s = attempts slot x s .pc
+pub attempt-keeps-pc : (slot : Bool) (x : Meaning) (pc : ℕ) (s : State) → attempted slot x pc s .after .control .pc ≡ s .control .pc
+attempt-keeps-pc slot x pc s = attempts slot x pc s .pc
 
 -- No instruction changes how long the memory is.
-pub length-stays : (x : Meaning) (s : State) → length (execute x s .after .memory) ≡ length (s .memory)
-length-stays x s = orderly x s .size
+pub length-stays : (x : Meaning) (pc : ℕ) (s : State) → length (execute x pc s .after .memory) ≡ length (s .memory)
+length-stays x pc s = orderly x pc s .size
 
 pub attempt-keeps-length :
-    (slot : Bool) (x : Meaning) (s : State) → length (attempted slot x s .after .memory) ≡ length (s .memory)
-attempt-keeps-length slot x s = attempts slot x s .size
+    (slot : Bool) (x : Meaning) (pc : ℕ) (s : State) → length (attempted slot x pc s .after .memory) ≡ length (s .memory)
+attempt-keeps-length slot x pc s = attempts slot x pc s .size

@@ -3,7 +3,8 @@
 use mathlib.Core.Path.{_≡_}
 use Prim.Native.Nat.{ℕ, _+_, _*_, _/_, _%_}
 use native.Mathlib.Omega.{arith}
-use Rattle.instructions.specs.Shapes.{gives, givesT, keeping}
+use Rattle.instructions.specs.Promises.{keeping}
+use Rattle.instructions.specs.Shapes.{gives, givesT}
 use Rattle.instructions.specs.State.{State, tBit}
 
 pub t-kept : (n v t : ℕ) (s : State) → tBit s ≡ t → gives n v s ≡ givesT n (keeping v t) s

@@ -6,15 +6,15 @@ use mathlib.Core.Bool.{Bool, true, false, _&&_, cond}
 use mathlib.Core.List.{List, [], _∷_}
 use Prim.Native.Nat.{ℕ, zero, suc, _+_, _%_, _^_, _<_}
 use native.Mathlib.Omega.{arith}
-use lib.Bits.{or-lt, xor-lt}
+use lib.Bits.{bitOr, or-lt, xor-lt}
 use lib.Dec.{T, eqb, ltb→lt}
 use lib.IntN.{_*ℤ_}
 use lib.Signed.{shrZ}
 use lib.ListN.{getD, length, length-set, set}
-use Rattle.numbers.specs.Numbers.{signedByte, signedWord, signedLong, low32}
-use Rattle.memory.specs.Access.{accessible, loaded, storedAt}
-use Rattle.memory.proofs.Bytes.{Bytes}
-use Rattle.memory.proofs.Laws.{load-small, store-keeps-bytes}
+use Rattle.numbers.specs.Numbers.{signedByte, signedWord, signedLong, low32, truth}
+use Rattle.memory.specs.Access.{accessible, loaded, written}
+use Rattle.memory.proofs.Bytes.{Bytes, written-bytes}
+use Rattle.memory.proofs.Laws.{load-small}
 use Rattle.multiply.specs.declared.Mac.{Mac}
 use Rattle.decoder.specs.Slot.{rewritesPc}
 use Rattle.decoder.specs.Widths.{within}
@@ -41,7 +41,8 @@ use Rattle.decoder.specs.declared.meaning.Return.the-variants.{Rte, Rts}
 use Rattle.decoder.specs.declared.meaning.Size.{Size}
 use Rattle.decoder.specs.declared.meaning.Size.the-variants.{Byte, Word, Long}
 use Rattle.instructions.specs.Execute.{attempted, execute}
-use Rattle.instructions.specs.Shapes.{Effect, leads, next, gives, givesT, givesMacl, givesMac, keeping, loading, storing, bytes, extended, steppedOn, withControlRegister, controlRegister}
+use Rattle.instructions.specs.Promises.{bytes, controlRegister, extended, keeping, withControlRegister}
+use Rattle.instructions.specs.Shapes.{Effect, leads, next, gives, givesT, givesMacl, givesMac, loading, storingAnd, incremented, minus}
 use Rattle.instructions.specs.State.{State, reg, withReg, withMemory, tBit, sBit, qBit, mBit, mac, masked, withPc, withSr, withT, withMQT, withGbr, withVbr, withPr, withMac, changed}
 use Rattle.instructions.specs.declared.control.Control.{Control}
 use Rattle.instructions.specs.declared.control.Flow.{Flow}
@@ -173,7 +174,7 @@ module _ {s : State} (r : StateInRange s) where
   mqt-changed : (m q t : ℕ) → StateInRange (changed (withMQT m q t) s)
   mqt-changed m q t = control-changed r (sr-changed (r .control) (mqt-masked (s .control .sr) (r .control .sr) m q t))
 
-  stepped : (k n : ℕ) → StateInRange (steppedOn k n s)
+  stepped : (k n : ℕ) → StateInRange (incremented k n s)
   stepped k n = register-changed r n (low32-below (reg n s + k))
 
   multiplies : {a : Mac} → MacBelow a → EffectInRange (givesMac a s)
@@ -182,22 +183,25 @@ module _ {s : State} (r : StateInRange s) where
   multiplies-low : {v : ℕ} → v < 2 ^ 32 → EffectInRange (givesMacl v s)
   multiplies-low below = onward (control-changed r (mac-changed (r .control) (r .control .mach) below))
 
-  returns : StateInRange (changed (withPr (low32 (s .control .pc + 4))) s)
-  returns = control-changed r (pr-changed (r .control) (low32-below (s .control .pc + 4)))
+  returns : {pc : ℕ} → pc < 2 ^ 32 → StateInRange (changed (withPr pc) s)
+  returns below = control-changed r (pr-changed (r .control) below)
 
   faults : EffectInRange (leads Fault s)
   faults = record { after = r; target = tt }
 
   loads :
-      (k a : ℕ) {f : ℕ → Effect} → ((v : ℕ) → v < 256 ^ k → EffectInRange (f v)) → EffectInRange (loading k a f s)
+      (k a : ℕ) {f : ℕ → Effect} → ((v : ℕ) → v < 256 ^ k → EffectInRange (f v)) → EffectInRange (loading k a s f)
   loads k a {f} follows =
       by-load EffectInRange s faults (loaded k (s .memory) a) f
       (λ v given. follows v (load-small k (s .memory) a v (r .memory) given))
 
-  stores : (k a v : ℕ) {t : State} → StateInRange t → EffectInRange (storing k a v t s)
-  stores k a v {t} after =
-      by-store EffectInRange s faults (accessible k (s .memory) a) (next (withMemory (storedAt k (s .memory) a v) t))
-      (onward (memory-changed after (storedAt k (s .memory) a v) (store-keeps-bytes k (s .memory) a v (r .memory))))
+  -- What a store does besides keeps the ranges.
+  stores :
+      (k a v : ℕ) {f : State → State} → ((t : State) → StateInRange t → StateInRange (f t)) →
+      EffectInRange (storingAnd k a v s f)
+  stores k a v {f} besides =
+      by-store EffectInRange s faults (accessible k (s .memory) a) (next (f (withMemory (written k (s .memory) a v) s)))
+      (onward (besides (withMemory (written k (s .memory) a v) s) (memory-changed r (written k (s .memory) a v) (written-bytes k (s .memory) a v (r .memory)))))
 
   -- A branch that is taken or not.
   branches-if : (test : Bool) (flow : Flow) → TargetInRange flow → EffectInRange (leads (cond test flow Next) s)
@@ -210,133 +214,142 @@ intoT r n t below = onward (t-changed (register-changed r n below) t)
 delays : {s : State} {target : ℕ} → target < 2 ^ 32 → StateInRange s → EffectInRange (leads (Delay target) s)
 delays below r = record { after = r; target = below }
 
-executes : (x : Meaning) (s : State) → T (within x) → StateInRange s → EffectInRange (execute x s)
+executes :
+    (x : Meaning) (pc : ℕ) (s : State) → T (within x) → pc < 2 ^ 32 → StateInRange s → EffectInRange (execute x pc s)
 unfolding execute
-executes Undefined s fits r = record { after = r; target = tt }
-executes (NoOperand Clrmac) s fits r = multiplies r (record { mach = omega arith; macl = omega arith })
-executes (NoOperand Clrt) s fits r = onward (t-changed r 0)
-executes (NoOperand Div0u) s fits r = onward (mqt-changed r 0 0 0)
-executes (NoOperand Nop) s fits r = onward r
-executes (NoOperand Sett) s fits r = onward (t-changed r 1)
-executes (NoOperand Sleep) s fits r = record { after = r; target = tt }
-executes (OneRegister Dt n) s fits r = intoT r n _ (low32-below _)
-executes (OneRegister Movt n) s fits r = into r n (omega arith)
-executes (OneRegister Rotcl n) s fits r = intoT r n _ (low32-below _)
-executes (OneRegister Rotcr n) s fits r = intoT r n _ (low32-below _)
-executes (OneRegister Rotl n) s fits r = intoT r n _ (rotl-below (reg-below r n))
-executes (OneRegister Rotr n) s fits r = intoT r n _ (rotr-below (reg-below r n))
-executes (OneRegister Shal n) s fits r = intoT r n _ (low32-below _)
-executes (OneRegister Shar n) s fits r = intoT r n _ (low-bits-below 32 (shrZ (signedLong (reg n s)) 2))
-executes (OneRegister Shll n) s fits r = intoT r n _ (low32-below _)
-executes (OneRegister Shll2 n) s fits r = into r n (low32-below _)
-executes (OneRegister Shll8 n) s fits r = into r n (low32-below _)
-executes (OneRegister Shll16 n) s fits r = into r n (low32-below _)
-executes (OneRegister Shlr n) s fits r = intoT r n _ (part-below 2 (reg-below r n))
-executes (OneRegister Shlr2 n) s fits r = into r n (part-below (2 ^ 2) (reg-below r n))
-executes (OneRegister Shlr8 n) s fits r = into r n (part-below (2 ^ 8) (reg-below r n))
-executes (OneRegister Shlr16 n) s fits r = into r n (part-below (2 ^ 16) (reg-below r n))
-executes (CompareZero CmpPl n) s fits r = onward (t-changed r _)
-executes (CompareZero CmpPz n) s fits r = onward (t-changed r _)
-executes (TwoRegisters Add m n) s fits r = into r n (low32-below _)
-executes (TwoRegisters Addc m n) s fits r = intoT r n _ (low32-below _)
-executes (TwoRegisters Addv m n) s fits r = intoT r n _ (low32-below _)
-executes (TwoRegisters And m n) s fits r = into r n (and-below (reg m s) (reg-below r n))
-executes (TwoRegisters ExtsB m n) s fits r = into r n (low-bits-below 32 (signedByte (reg m s % 2 ^ 8)))
-executes (TwoRegisters ExtsW m n) s fits r = into r n (low-bits-below 32 (signedWord (reg m s % 2 ^ 16)))
-executes (TwoRegisters ExtuB m n) s fits r = into r n (omega arith)
-executes (TwoRegisters ExtuW m n) s fits r = into r n (omega arith)
-executes (TwoRegisters Mov m n) s fits r = into r n (reg-below r m)
-executes (TwoRegisters Neg m n) s fits r = into r n (low32-below _)
-executes (TwoRegisters Negc m n) s fits r = intoT r n _ (low32-below _)
-executes (TwoRegisters Not m n) s fits r = into r n (complement-below (reg m s))
-executes (TwoRegisters Or m n) s fits r = into r n (or-lt 32 (reg n s) (reg m s) (reg-below r n) (reg-below r m))
-executes (TwoRegisters Sub m n) s fits r = into r n (low32-below _)
-executes (TwoRegisters Subc m n) s fits r = intoT r n _ (low32-below _)
-executes (TwoRegisters Subv m n) s fits r = intoT r n _ (low32-below _)
-executes (TwoRegisters SwapB m n) s fits r = into r n (swapB-below (reg-below r m))
-executes (TwoRegisters SwapW m n) s fits r = into r n (xtrct-below (reg m s) (reg-below r m))
-executes (TwoRegisters Xor m n) s fits r = into r n (xor-lt 32 (reg n s) (reg m s) (reg-below r n) (reg-below r m))
-executes (TwoRegisters Xtrct m n) s fits r = into r n (xtrct-below (reg m s) (reg-below r n))
-executes (Compare CmpEq m n) s fits r = onward (t-changed r _)
-executes (Compare CmpGe m n) s fits r = onward (t-changed r _)
-executes (Compare CmpGt m n) s fits r = onward (t-changed r _)
-executes (Compare CmpHi m n) s fits r = onward (t-changed r _)
-executes (Compare CmpHs m n) s fits r = onward (t-changed r _)
-executes (Compare CmpStr m n) s fits r = onward (t-changed r _)
-executes (Compare Tst m n) s fits r = onward (t-changed r _)
-executes (Divide Div0s m n) s fits r = onward (mqt-changed r _ _ _)
-executes (Divide Div1 m n) s fits r =
+executes Undefined pc s fits below r = record { after = r; target = tt }
+executes (NoOperand Clrmac) pc s fits below r = multiplies r (record { mach = omega arith; macl = omega arith })
+executes (NoOperand Clrt) pc s fits below r = onward (t-changed r 0)
+executes (NoOperand Div0u) pc s fits below r = onward (mqt-changed r 0 0 0)
+executes (NoOperand Nop) pc s fits below r = onward r
+executes (NoOperand Sett) pc s fits below r = onward (t-changed r 1)
+executes (NoOperand Sleep) pc s fits below r = record { after = r; target = tt }
+executes (OneRegister Dt n) pc s fits below r = intoT r n _ (low32-below _)
+executes (OneRegister Movt n) pc s fits below r = into r n (omega arith)
+executes (OneRegister Rotcl n) pc s fits below r = intoT r n _ (low32-below _)
+executes (OneRegister Rotcr n) pc s fits below r = intoT r n _ (low32-below _)
+executes (OneRegister Rotl n) pc s fits below r = intoT r n _ (rotl-below (reg-below r n))
+executes (OneRegister Rotr n) pc s fits below r = intoT r n _ (rotr-below (reg-below r n))
+executes (OneRegister Shal n) pc s fits below r = intoT r n _ (low32-below _)
+executes (OneRegister Shar n) pc s fits below r = intoT r n _ (low-bits-below 32 (shrZ (signedLong (reg n s)) 2))
+executes (OneRegister Shll n) pc s fits below r = intoT r n _ (low32-below _)
+executes (OneRegister Shll2 n) pc s fits below r = into r n (low32-below _)
+executes (OneRegister Shll8 n) pc s fits below r = into r n (low32-below _)
+executes (OneRegister Shll16 n) pc s fits below r = into r n (low32-below _)
+executes (OneRegister Shlr n) pc s fits below r = intoT r n _ (part-below 2 (reg-below r n))
+executes (OneRegister Shlr2 n) pc s fits below r = into r n (part-below (2 ^ 2) (reg-below r n))
+executes (OneRegister Shlr8 n) pc s fits below r = into r n (part-below (2 ^ 8) (reg-below r n))
+executes (OneRegister Shlr16 n) pc s fits below r = into r n (part-below (2 ^ 16) (reg-below r n))
+executes (CompareZero CmpPl n) pc s fits below r = onward (t-changed r _)
+executes (CompareZero CmpPz n) pc s fits below r = onward (t-changed r _)
+executes (TwoRegisters Add m n) pc s fits below r = into r n (low32-below _)
+executes (TwoRegisters Addc m n) pc s fits below r = intoT r n _ (low32-below _)
+executes (TwoRegisters Addv m n) pc s fits below r = intoT r n _ (low32-below _)
+executes (TwoRegisters And m n) pc s fits below r = into r n (and-below (reg m s) (reg-below r n))
+executes (TwoRegisters ExtsB m n) pc s fits below r = into r n (low-bits-below 32 (signedByte (reg m s % 2 ^ 8)))
+executes (TwoRegisters ExtsW m n) pc s fits below r = into r n (low-bits-below 32 (signedWord (reg m s % 2 ^ 16)))
+executes (TwoRegisters ExtuB m n) pc s fits below r = into r n (omega arith)
+executes (TwoRegisters ExtuW m n) pc s fits below r = into r n (omega arith)
+executes (TwoRegisters Mov m n) pc s fits below r = into r n (reg-below r m)
+executes (TwoRegisters Neg m n) pc s fits below r = into r n (low32-below _)
+executes (TwoRegisters Negc m n) pc s fits below r = intoT r n _ (low32-below _)
+executes (TwoRegisters Not m n) pc s fits below r = into r n (complement-below (reg m s))
+executes (TwoRegisters Or m n) pc s fits below r = into r n (or-lt 32 (reg n s) (reg m s) (reg-below r n) (reg-below r m))
+executes (TwoRegisters Sub m n) pc s fits below r = into r n (low32-below _)
+executes (TwoRegisters Subc m n) pc s fits below r = intoT r n _ (low32-below _)
+executes (TwoRegisters Subv m n) pc s fits below r = intoT r n _ (low32-below _)
+executes (TwoRegisters SwapB m n) pc s fits below r = into r n (swapB-below (reg-below r m))
+executes (TwoRegisters SwapW m n) pc s fits below r = into r n (xtrct-below (reg m s) (reg-below r m))
+executes (TwoRegisters Xor m n) pc s fits below r = into r n (xor-lt 32 (reg n s) (reg m s) (reg-below r n) (reg-below r m))
+executes (TwoRegisters Xtrct m n) pc s fits below r = into r n (xtrct-below (reg m s) (reg-below r n))
+executes (Compare CmpEq m n) pc s fits below r = onward (t-changed r _)
+executes (Compare CmpGe m n) pc s fits below r = onward (t-changed r _)
+executes (Compare CmpGt m n) pc s fits below r = onward (t-changed r _)
+executes (Compare CmpHi m n) pc s fits below r = onward (t-changed r _)
+executes (Compare CmpHs m n) pc s fits below r = onward (t-changed r _)
+executes (Compare CmpStr m n) pc s fits below r = onward (t-changed r _)
+executes (Compare Tst m n) pc s fits below r = onward (t-changed r _)
+executes (Divide Div0s m n) pc s fits below r = onward (mqt-changed r _ _ _)
+executes (Divide Div1 m n) pc s fits below r =
     onward (mqt-changed (register-changed r n (div1-below (reg m s) (reg n s) (mBit s) (qBit s) (tBit s))) _ _ _)
-executes (Multiply DmulsL m n) s fits r = multiplies r (dmulsL-below (reg m s) (reg n s))
-executes (Multiply DmuluL m n) s fits r = multiplies r (dmuluL-below (reg-below r m) (reg-below r n))
-executes (Multiply MulL m n) s fits r = multiplies-low r (low32-below _)
-executes (Multiply MulsW m n) s fits r =
+executes (Multiply DmulsL m n) pc s fits below r = multiplies r (dmulsL-below (reg m s) (reg n s))
+executes (Multiply DmuluL m n) pc s fits below r = multiplies r (dmuluL-below (reg-below r m) (reg-below r n))
+executes (Multiply MulL m n) pc s fits below r = multiplies-low r (low32-below _)
+executes (Multiply MulsW m n) pc s fits below r =
     multiplies-low r (low-bits-below 32 (signedWord (reg n s % 2 ^ 16) *ℤ signedWord (reg m s % 2 ^ 16)))
-executes (Multiply MuluW m n) s fits r = multiplies-low r (muluW-below (reg m s) (reg n s))
-executes (MultiplyAdd MacL m n) s fits r =
+executes (Multiply MuluW m n) pc s fits below r = multiplies-low r (muluW-below (reg m s) (reg n s))
+executes (MultiplyAdd MacL m n) pc s fits below r =
     loads r 4 _ (λ b _. loads r 4 _ (λ a _. multiplies (stepped (stepped r 4 n) 4 m) (macL-below (mac s) (sBit s) a b)))
-executes (MultiplyAdd MacW m n) s fits r =
+executes (MultiplyAdd MacW m n) pc s fits below r =
     loads r 2 _
     (λ b _.
     loads r 2 _
     (λ a _.
     multiplies (stepped (stepped r 2 n) 2 m)
     (macW-below (record { mach = r .control .mach; macl = r .control .macl }) (sBit s) a b)))
-executes (Immediate AddImm i n) s fits r = into r n (low32-below _)
-executes (Immediate MovImm i n) s fits r = into r n (low-bits-below 32 (signedByte (i % 2 ^ 8)))
-executes (ImmediateR0 AndImm i) s fits r = into r 0 (and-below i (reg-below r 0))
-executes (ImmediateR0 CmpEqImm i) s fits r = onward (t-changed r _)
-executes (ImmediateR0 OrImm i) s fits r = into r 0 (or-lt 32 (reg 0 s) i (reg-below r 0) (omega (arith, ltb→lt i 256 fits)))
-executes (ImmediateR0 TstImm i) s fits r = onward (t-changed r _)
-executes (ImmediateR0 XorImm i) s fits r = into r 0 (xor-lt 32 (reg 0 s) i (reg-below r 0) (omega (arith, ltb→lt i 256 fits)))
-executes (ImmediateByte AndB i) s fits r = loads r 1 _ (λ v _. stores r _ _ _ r)
-executes (ImmediateByte OrB i) s fits r = loads r 1 _ (λ v _. stores r _ _ _ r)
-executes (ImmediateByte TstB i) s fits r = loads r 1 _ (λ v _. onward (t-changed r _))
-executes (ImmediateByte XorB i) s fits r = loads r 1 _ (λ v _. stores r _ _ _ r)
-executes (Load size address n) s fits r =
-    rw (load size address n s) (loads r _ _ (λ v small. into r n (extended-below size v small)))
-executes (LoadIncrement size m n) s fits r =
-    rw (load-increment size m n s) (loads r _ _ (λ v small. into (stepped r (bytes size) m) n (extended-below size v small)))
-executes (Store size m address) s fits r = rw (store size m address s) (stores r _ _ _ r)
-executes (StoreDecrement size m n) s fits r =
-    rw (store-decrement size m n s) (stores r _ _ _ (register-changed r n (low32-below _)))
-executes (Relative MovW d n) s fits r = loads r 2 _ (λ v small. into r n (extended-below Word v small))
-executes (Relative MovL d n) s fits r = loads r 4 _ (λ v small. into r n small)
-executes (Relative Mova d n) s fits r = into r n (low32-below _)
-executes (LoadControl register m) s fits r =
-    rw (load-control register m s) (onward (control-changed r (loaded-control (r .control) register (reg m s) (reg-below r m))))
-executes (LoadControlLong register m) s fits r =
-    rw (load-control-long register m s)
+executes (Immediate AddImm i n) pc s fits below r = into r n (low32-below _)
+executes (Immediate MovImm i n) pc s fits below r = into r n (low-bits-below 32 (signedByte (i % 2 ^ 8)))
+executes (ImmediateR0 AndImm i) pc s fits below r = into r 0 (and-below i (reg-below r 0))
+executes (ImmediateR0 CmpEqImm i) pc s fits below r = onward (t-changed r _)
+executes (ImmediateR0 OrImm i) pc s fits below r = into r 0 (or-lt 32 (reg 0 s) i (reg-below r 0) (omega (arith, ltb→lt i 256 fits)))
+executes (ImmediateR0 TstImm i) pc s fits below r = onward (t-changed r _)
+executes (ImmediateR0 XorImm i) pc s fits below r = into r 0 (xor-lt 32 (reg 0 s) i (reg-below r 0) (omega (arith, ltb→lt i 256 fits)))
+executes (ImmediateByte AndB i) pc s fits below r = loads r 1 _ (λ v _. stores r _ _ _ (λ t q. q))
+executes (ImmediateByte OrB i) pc s fits below r = loads r 1 _ (λ v _. stores r _ _ _ (λ t q. q))
+executes (ImmediateByte TstB i) pc s fits below r = loads r 1 _ (λ v _. onward (t-changed r _))
+executes (ImmediateByte XorB i) pc s fits below r = loads r 1 _ (λ v _. stores r _ _ _ (λ t q. q))
+executes (Load size address n) pc s fits below r =
+    rw (load size address n pc s) (loads r _ _ (λ v small. into r n (extended-below size v small)))
+executes (LoadIncrement size m n) pc s fits below r =
+    rw (load-increment size m n pc s) (loads r _ _ (λ v small. into (stepped r (bytes size) m) n (extended-below size v small)))
+executes (Store size m address) pc s fits below r = rw (store size m address pc s) (stores r _ _ _ (λ t q. q))
+executes (StoreDecrement size m n) pc s fits below r =
+    rw (store-decrement size m n pc s)
+    (stores r (bytes size) _ (reg m s) {f = withReg n (minus (reg n s) (bytes size))}
+    (λ t q. register-changed q n (low32-below _)))
+executes (Relative MovW d n) pc s fits below r = loads r 2 _ (λ v small. into r n (extended-below Word v small))
+executes (Relative MovL d n) pc s fits below r = loads r 4 _ (λ v small. into r n small)
+executes (Relative Mova d n) pc s fits below r = into r n (low32-below _)
+executes (LoadControl register m) pc s fits below r =
+    rw (load-control register m pc s) (onward (control-changed r (loaded-control (r .control) register (reg m s) (reg-below r m))))
+executes (LoadControlLong register m) pc s fits below r =
+    rw (load-control-long register m pc s)
     (loads r 4 _ (λ v small. onward (control-changed (stepped r 4 m) (loaded-control (r .control) register v small))))
-executes (StoreControl register n) s fits r = rw (store-control register n s) (into r n (stored-control (r .control) register))
-executes (StoreControlLong register n) s fits r =
-    rw (store-control-long register n s) (stores r _ _ _ (register-changed r n (low32-below _)))
-executes (TasB n) s fits r = loads r 1 _ (λ v _. stores r _ _ _ (t-changed r _))
-executes (BranchIf Bf d) s fits r = branches-if r (eqb (tBit s) 0) (Jump _) (low32-below _)
-executes (BranchIf BfS d) s fits r = branches-if r (eqb (tBit s) 0) (Delay _) (low32-below _)
-executes (BranchIf Bt d) s fits r = branches-if r (eqb (tBit s) 1) (Jump _) (low32-below _)
-executes (BranchIf BtS d) s fits r = branches-if r (eqb (tBit s) 1) (Delay _) (low32-below _)
-executes (Branch Bra d) s fits r = delays (low32-below _) r
-executes (Branch Bsr d) s fits r = delays (low32-below _) (returns r)
-executes (BranchTo Braf m) s fits r = delays (low32-below _) r
-executes (BranchTo Bsrf m) s fits r = delays (low32-below _) (returns r)
-executes (BranchTo Jmp m) s fits r = delays (reg-below r m) r
-executes (BranchTo Jsr m) s fits r = delays (reg-below r m) (returns r)
-executes (Return Rte) s fits r =
+executes (StoreControl register n) pc s fits below r = rw (store-control register n pc s) (into r n (stored-control (r .control) register))
+executes (StoreControlLong register n) pc s fits below r =
+    rw (store-control-long register n pc s)
+    (stores r 4 _ (controlRegister register (s .control)) {f = withReg n (minus (reg n s) 4)}
+    (λ t q. register-changed q n (low32-below _)))
+executes (TasB n) pc s fits below r =
+    loads r 1 _
+    (λ v _. stores r 1 _ (bitOr v 0x80) {f = changed (withT (truth (eqb v 0)))} (λ t q. t-changed q _))
+executes (BranchIf Bf d) pc s fits below r = branches-if r (eqb (tBit s) 0) (Jump _) (low32-below _)
+executes (BranchIf BfS d) pc s fits below r = branches-if r (eqb (tBit s) 0) (Delay _) (low32-below _)
+executes (BranchIf Bt d) pc s fits below r = branches-if r (eqb (tBit s) 1) (Jump _) (low32-below _)
+executes (BranchIf BtS d) pc s fits below r = branches-if r (eqb (tBit s) 1) (Delay _) (low32-below _)
+executes (Branch Bra d) pc s fits below r = delays (low32-below _) r
+executes (Branch Bsr d) pc s fits below r = delays (low32-below _) (returns r below)
+executes (BranchTo Braf m) pc s fits below r = delays (low32-below _) r
+executes (BranchTo Bsrf m) pc s fits below r = delays (low32-below _) (returns r below)
+executes (BranchTo Jmp m) pc s fits below r = delays (reg-below r m) r
+executes (BranchTo Jsr m) pc s fits below r = delays (reg-below r m) (returns r below)
+executes (Return Rte) pc s fits below r =
     loads r 4 _
     (λ p small.
     loads r 4 _ (λ v _. delays small (control-changed (stepped r 8 15) (sr-changed (r .control) (masked-again v)))))
-executes (Return Rts) s fits r = delays (r .control .pr) r
-executes (Trapa i) s fits r = record { after = r; target = tt }
+executes (Return Rts) pc s fits below r = delays (r .control .pr) r
+executes (Trapa i) pc s fits below r = record { after = r; target = tt }
 
-pub execute-in-range : (x : Meaning) (s : State) → T (within x) → StateInRange s → EffectInRange (execute x s)
+pub execute-in-range :
+    (x : Meaning) (pc : ℕ) (s : State) → T (within x) → pc < 2 ^ 32 → StateInRange s → EffectInRange (execute x pc s)
 execute-in-range = executes
 
 pub attempt-in-range :
-    (slot : Bool) (x : Meaning) (s : State) → T (within x) → StateInRange s → EffectInRange (attempted slot x s)
+    (slot : Bool) (x : Meaning) (pc : ℕ) (s : State) → T (within x) → pc < 2 ^ 32 → StateInRange s →
+    EffectInRange (attempted slot x pc s)
 unfolding attempted
-attempt-in-range slot x s fits r = go (slot && rewritesPc x)
+attempt-in-range slot x pc s fits below r = go (slot && rewritesPc x)
   where
-    go : (test : Bool) → EffectInRange (cond test (leads Illegal s) (execute x s))
+    go : (test : Bool) → EffectInRange (cond test (leads Illegal s) (execute x pc s))
     go true = record { after = r; target = tt }
-    go false = executes x s fits r
+    go false = executes x pc s fits below r

@@ -11,7 +11,8 @@ pub record State : Type 0 where
   pub control : Control
   pub memory : List ℕ
 
--- Rn
+-- Rn. A register number is taken modulo 16 and a register that is not there is 0, so that `reg` has a meaning for every number and every list;
+-- the decoder's numbers are below 16, and the code's registers are sixteen.
 abbrev pub reg : ℕ → State → ℕ
 reg n s = getD (s .registers) (n % 16) 0
 
@@ -86,3 +87,9 @@ withPr v c =
 abbrev pub withMac : ℕ → ℕ → Control → Control
 withMac h l c =
     record { pc = c .pc; sr = c .sr; gbr = c .gbr; vbr = c .vbr; pr = c .pr; mach = h; macl = l }
+
+abbrev pub withMach : ℕ → Control → Control
+withMach h c = withMac h (c .macl) c
+
+abbrev pub withMacl : ℕ → Control → Control
+withMacl l c = withMac (c .mach) l c

@@ -1,7 +1,7 @@
 // The control registers, and where an instruction leads.
 use decoder::ControlRegister;
 ghost use mathlib.Core.Path.{_≡_};
-ghost use Rattle.instructions.specs.Shapes as Shapes;
+ghost use Rattle.instructions.specs.Promises as Promises;
 ghost use Rattle.instructions.specs.State as State;
 
 // The control registers (document 000, section 2.2) and system registers (2.3).
@@ -21,7 +21,7 @@ impl Control {
 
     // What LDC and LDS write. SR takes its mask (document 01, "Instructions with corners").
     pub fn with_register(mut self, register: ControlRegister, value: u32) -> Self
-        ensures { λ r. ⌜ r ≡ Shapes.withControlRegister register value self ⌝ }
+        ensures { λ r. ⌜ r ≡ Promises.withControlRegister register value self ⌝ }
     {
         match register {
             ControlRegister::Gbr => self.gbr = value,
@@ -36,7 +36,7 @@ impl Control {
 
     // What STC and STS read.
     pub fn register(self, register: ControlRegister) -> u32
-        ensures { λ r. ⌜ r ≡ Shapes.controlRegister register self ⌝ }
+        ensures { λ r. ⌜ r ≡ Promises.controlRegister register self ⌝ }
     {
         match register {
             ControlRegister::Gbr => self.gbr,
