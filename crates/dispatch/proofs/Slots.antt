@@ -14,15 +14,15 @@ use Rattle.instructions.specs.declared.control.Control.{Control}
 use Rattle.instructions.specs.declared.control.Flow.{Flow}
 use Rattle.instructions.proofs.Effects.{pc-stays}
 
-pub anywhere : (slot : Bool) (x : Meaning) (s : State) (e : Effect) → rewritesPc x ≡ false → execute x s ≡ e → attempted slot x s ≡ e
+pub anywhere : (slot : Bool) (x : Meaning) (pc : ℕ) (s : State) (e : Effect) → rewritesPc x ≡ false → execute x pc s ≡ e → attempted slot x pc s ≡ e
 unfolding attempted
-anywhere true x s e stays effect = rw stays effect
-anywhere false x s e stays effect = effect
+anywhere true x pc s e stays effect = rw stays effect
+anywhere false x pc s e stays effect = effect
 
 -- An instruction leaves the PC to the step.
 pub at-the-same-pc :
-    (x : Meaning) (s : State) (f : Flow) (d : Control) (r memory : List ℕ) → execute x s ≡ leads f (state r d memory) →
-    execute x s ≡ leads f (state r (control (s .control .pc) (d .sr) (d .gbr) (d .vbr) (d .pr) (d .mach) (d .macl)) memory)
-at-the-same-pc x s f d r memory e =
-    let same : d .pc ≡ s .control .pc = sym (ap (λ (y : Effect). y .after .control .pc) e) ∙ pc-stays x s in
+    (x : Meaning) (pc : ℕ) (s : State) (f : Flow) (d : Control) (r memory : List ℕ) → execute x pc s ≡ leads f (state r d memory) →
+    execute x pc s ≡ leads f (state r (control (s .control .pc) (d .sr) (d .gbr) (d .vbr) (d .pr) (d .mach) (d .macl)) memory)
+at-the-same-pc x pc s f d r memory e =
+    let same : d .pc ≡ s .control .pc = sym (ap (λ (y : Effect). y .after .control .pc) e) ∙ pc-stays x pc s in
     e ∙ ap (λ (p : ℕ). leads f (state r (control p (d .sr) (d .gbr) (d .vbr) (d .pr) (d .mach) (d .macl)) memory)) same

@@ -10,12 +10,11 @@ ghost use mathlib.Core.Path.{_≡_};
 ghost use mathlib.Core.List.{List};
 ghost use Prim.Native.Nat.{ℕ, _*_};
 ghost use Rattle.memory.specs.Access.{loaded, Stores};
-ghost use Rattle.instructions.specs.Promises.{extendedLoad, state};
-ghost use Rattle.instructions.specs.Shapes as Shapes;
+ghost use Rattle.instructions.specs.Promises as Promises;
 ghost use Rattle.instructions.specs.State.{withGbr};
 
 pub fn bytes(size: Size) -> u32
-    ensures { λ k. ⌜ k ≡ Shapes.bytes size ⌝ }
+    ensures { λ k. ⌜ k ≡ Promises.bytes size ⌝ }
 {
     match size {
         Size::Byte => 1,
@@ -25,7 +24,7 @@ pub fn bytes(size: Size) -> u32
 }
 
 pub fn effective(size: Size, address: Address, gbr: u32, r: &[u32; 16]) -> u32
-    ensures { λ a. ⌜ ((c : Control) (memory : List ℕ) → a ≡ Shapes.effective size address (state (now (r .entry)) (withGbr gbr c) memory)) ⌝ }
+    ensures { λ a. ⌜ ((c : Control) (memory : List ℕ) → a ≡ Promises.effective size address (Promises.state (now (r .entry)) (withGbr gbr c) memory)) ⌝ }
 {
     match address {
         Address::Indirect(n) => r[(n % 16) as usize],
@@ -36,7 +35,7 @@ pub fn effective(size: Size, address: Address, gbr: u32, r: &[u32; 16]) -> u32
 }
 
 fn scaled(size: Size, d: u8) -> u32
-    ensures { λ a. ⌜ a ≡ d * Shapes.bytes size ⌝ }
+    ensures { λ a. ⌜ a ≡ d * Promises.bytes size ⌝ }
 {
     match size {
         Size::Byte => d as u32,
@@ -47,7 +46,7 @@ fn scaled(size: Size, d: u8) -> u32
 
 // What a register takes from memory.
 pub fn load(size: Size, memory: &[u8], at: u32) -> Loaded
-    ensures { λ v. ⌜ v ≡ extendedLoad size (loaded (Shapes.bytes size) (now (memory .entry)) at) ⌝ }
+    ensures { λ v. ⌜ v ≡ Promises.extendedLoad size (loaded (Promises.bytes size) (now (memory .entry)) at) ⌝ }
 {
     match size {
         Size::Byte => match memory::Byte::load(memory, at) {
@@ -63,7 +62,7 @@ pub fn load(size: Size, memory: &[u8], at: u32) -> Loaded
 }
 
 pub fn store(size: Size, memory: &mut [u8], at: u32, value: u32) -> Stored
-    ensures { λ a. ⌜ Stores (Shapes.bytes size) (now (memory .entry)) at value a (now (memory .exit)) ⌝ }
+    ensures { λ a. ⌜ Stores (Promises.bytes size) (now (memory .entry)) at value a (now (memory .exit)) ⌝ }
 {
     match size {
         Size::Byte => memory::Byte::store(memory, at, value),

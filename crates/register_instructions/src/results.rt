@@ -12,8 +12,7 @@ use decoder::TwoRegisters;
 use numbers::WithT;
 ghost use mathlib.Core.Path.{_≡_};
 ghost use Prim.Native.Nat.{ℕ};
-ghost use Rattle.instructions.specs.Promises.{Gives, Tells};
-ghost use Rattle.instructions.specs.Shapes.{keeping};
+ghost use Rattle.instructions.specs.Promises.{Gives, Tells, keeping};
 
 // From Rm, Rn and T.
 pub fn of_two_registers(operation: TwoRegisters, a: u32, b: u32, t: u32) -> WithT

@@ -102,7 +102,7 @@ same-length-5 : tie.Need-same-length-5
 same-length-5 c = search needs
 
 returns-5 : tie.Need-returns-5
-returns-5 c = λ k. byte-failed (c .before .before .before .before .before .before .before .args .operation) _ _
+returns-5 c = λ k. byte-failed (c .before .before .before .before .before .before .before .args .operation) _ _ _
     (rw (sym (c .before .before .before .before .wrapping-add-u32 .ensures)) (met (c .before .before .load .ensures) (c .enum-told5 .given .1)))
 
 pub immediate-byte-spec : {M : Type 1} → statement M

@@ -22,7 +22,7 @@ returns : tie.Need-returns
 returns c = λ r k.
     let a = c .before .before .before .before .before .before .before .args in
     let s = state r k (a .memory .now) in
-    store-done 1 (a .at) (a .byte) s s _ _ (c .before .before .before .before .store .ensures) (c .enum-told .given .1)
+    store-done 1 (a .at) (a .byte) s (λ t. t) _ _ (c .before .before .before .before .store .ensures) (c .enum-told .given .1)
 
 same-length-2 : tie.Need-same-length-2
 same-length-2 c = search needs
@@ -31,7 +31,7 @@ returns-2 : tie.Need-returns-2
 returns-2 c = λ r k.
     let a = c .before .before .before .before .before .before .before .args in
     let s = state r k (a .memory .now) in
-    store-failed 1 (a .at) (a .byte) s s _ _ (c .before .before .before .before .store .ensures) (c .enum-told2 .given .1)
+    store-failed 1 (a .at) (a .byte) s (λ t. t) _ _ (c .before .before .before .before .store .ensures) (c .enum-told2 .given .1)
 
 pub replace-spec : {M : Type 1} → statement M
 replace-spec =

@@ -56,7 +56,7 @@ returns c = λ k.
     let a = c .before .before .before .before .before .before .before .before .before .before .before .before .before .before .before .before .args in
     let s = state (a .r .now) (withSr (a .sr .now) k) (a .memory .now) in
     rw (met (c .before .before .before .before .before .before .before .before .before .before .before .before .load .ensures) (c .before .before .before .before .before .before .before .before .before .before .v .given .1), sym (c .before .before .before .before .before .before .before .or .ensures), c .with-t .ensures)
-    (store-done 1 (reg (a .n) s) (c .before .before .before .before .before .before .before .or .result) (changed (withT (truth (eqb (c .before .before .before .before .before .before .before .before .before .before .v .given .0 .0) 0))) s) s _ _ (c .before .before .before .before .before .before .store .ensures) (c .before .before .enum-told .given .1))
+    (store-done 1 (reg (a .n) s) (c .before .before .before .before .before .before .before .or .result) s (changed (withT (truth (eqb (c .before .before .before .before .before .before .before .before .before .before .v .given .0 .0) 0)))) _ _ (c .before .before .before .before .before .before .store .ensures) (c .before .before .enum-told .given .1))
 
 same-length-2 : tie.Need-same-length-2
 same-length-2 c = search needs
@@ -67,7 +67,7 @@ returns-2 c = λ k.
     let a = c .before .before .before .before .before .before .before .before .before .before .before .before .before .before .args in
     let s = state (a .r .now) (withSr (a .sr .now) k) (a .memory .now) in
     rw (met (c .before .before .before .before .before .before .before .before .before .before .load .ensures) (c .before .before .before .before .before .before .before .before .v .given .1), sym (c .before .before .before .before .before .or .ensures))
-    (store-failed 1 (reg (a .n) s) (c .before .before .before .before .before .or .result) (changed (withT (truth (eqb (c .before .before .before .before .before .before .before .before .v .given .0 .0) 0))) s) s _ _ (c .before .before .before .before .store .ensures) (c .enum-told2 .given .1))
+    (store-failed 1 (reg (a .n) s) (c .before .before .before .before .before .or .result) s (changed (withT (truth (eqb (c .before .before .before .before .before .before .before .before .v .given .0 .0) 0)))) _ _ (c .before .before .before .before .store .ensures) (c .enum-told2 .given .1))
 
 same-length-3 : tie.Need-same-length-3
 same-length-3 c = search needs

@@ -1,9 +1,10 @@
 -- `load_increment` steps Rm on and puts what was loaded into Rn, or faults with nothing changed.
 -- Assumes nothing.
 use Rattle.memory.specs.Access.{loaded}
-use Rattle.instructions.specs.Promises.{state}
+use Rattle.arithmetic.specs.Addresses.{following}
+use Rattle.instructions.specs.Promises.{bytes, extended, state}
 use Rattle.instructions.specs.State.{reg}
-use Rattle.instructions.specs.Shapes.{bytes, extended, gives, steppedOn}
+use Rattle.instructions.specs.Shapes.{gives, incremented}
 use Rattle.instructions.proofs.Families.{load-increment as mov-increment}
 use Rattle.instructions.proofs.Answers.{met, load-value, load-failed}
 use borrow.Author.Needs.{needs}
@@ -54,15 +55,15 @@ returns : tie.Need-returns
 returns c = λ k.
     let a = c .before .before .before .before .before .before .before .before .args in
     let s = state (a .r .now) (k) (a .memory .now) in
-    rw (mov-increment (a .size) (a .m) (a .n) s, c .wrapping-add-u32 .ensures, c .before .bytes .ensures)
-    (load-value (a .size) (loaded (bytes (a .size)) (a .memory .now) (reg (a .m) s)) _ (λ w. gives (a .n) w (steppedOn (bytes (a .size)) (a .m) s)) s (met (c .before .before .before .before .before .load .ensures) (c .before .before .before .v .given .1)))
+    rw (mov-increment (a .size) (a .m) (a .n) (following (s .control .pc)) s, c .wrapping-add-u32 .ensures, c .before .bytes .ensures)
+    (load-value (a .size) (loaded (bytes (a .size)) (a .memory .now) (reg (a .m) s)) _ (λ w. gives (a .n) w (incremented (bytes (a .size)) (a .m) s)) s (met (c .before .before .before .before .before .load .ensures) (c .before .before .before .v .given .1)))
 
 returns-2 : tie.Need-returns-2
 returns-2 c = λ k.
     let a = c .before .before .before .before .before .args in
     let s = state (a .r .now) (k) (a .memory .now) in
-    rw (mov-increment (a .size) (a .m) (a .n) s)
-    (load-failed (a .size) (loaded (bytes (a .size)) (a .memory .now) (reg (a .m) s)) (λ w. gives (a .n) (extended (a .size) w) (steppedOn (bytes (a .size)) (a .m) s)) s (met (c .before .before .load .ensures) (c .enum-told .given .1)))
+    rw (mov-increment (a .size) (a .m) (a .n) (following (s .control .pc)) s)
+    (load-failed (a .size) (loaded (bytes (a .size)) (a .memory .now) (reg (a .m) s)) (λ w. gives (a .n) (extended (a .size) w) (incremented (bytes (a .size)) (a .m) s)) s (met (c .before .before .load .ensures) (c .enum-told .given .1)))
 
 pub load-increment-spec : {M : Type 1} → statement M
 load-increment-spec =

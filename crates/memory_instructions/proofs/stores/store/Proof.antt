@@ -1,9 +1,9 @@
 -- `store` stores Rm, or faults with nothing changed.
 -- Assumes nothing.
 use mathlib.Core.Path.{refl, sym}
-use Rattle.instructions.specs.Promises.{state}
+use Rattle.arithmetic.specs.Addresses.{following}
+use Rattle.instructions.specs.Promises.{bytes, state}
 use Rattle.instructions.specs.State.{withGbr}
-use Rattle.instructions.specs.Shapes.{bytes}
 use Rattle.instructions.proofs.Families.{store as mov-store}
 use Rattle.instructions.proofs.Answers.{store-done, store-failed}
 use borrow.Author.Needs.{needs}
@@ -38,8 +38,8 @@ returns : tie.Need-returns
 returns c = λ k.
     let a = c .before .before .before .before .before .before .before .before .before .args in
     let s = state (a .r .now) (withGbr (a .gbr) k) (a .memory .now) in
-    rw (mov-store (a .size) (a .m) (a .address) s, sym (c .before .before .before .before .before .before .before .effective .ensures k (a .memory .now)))
-    (store-done (bytes (a .size)) _ _ s s _ _ (c .before .before .before .before .store .ensures) (c .enum-told .given .1))
+    rw (mov-store (a .size) (a .m) (a .address) (following (s .control .pc)) s, sym (c .before .before .before .before .before .before .before .effective .ensures k (a .memory .now)))
+    (store-done (bytes (a .size)) _ _ s (λ t. t) _ _ (c .before .before .before .before .store .ensures) (c .enum-told .given .1))
 
 same-length-2 : tie.Need-same-length-2
 same-length-2 c = search needs
@@ -48,8 +48,8 @@ returns-2 : tie.Need-returns-2
 returns-2 c = λ k.
     let a = c .before .before .before .before .before .before .before .before .before .args in
     let s = state (a .r .now) (withGbr (a .gbr) k) (a .memory .now) in
-    rw (mov-store (a .size) (a .m) (a .address) s, sym (c .before .before .before .before .before .before .before .effective .ensures k (a .memory .now)))
-    (store-failed (bytes (a .size)) _ _ s s _ _ (c .before .before .before .before .store .ensures) (c .enum-told2 .given .1))
+    rw (mov-store (a .size) (a .m) (a .address) (following (s .control .pc)) s, sym (c .before .before .before .before .before .before .before .effective .ensures k (a .memory .now)))
+    (store-failed (bytes (a .size)) _ _ s (λ t. t) _ _ (c .before .before .before .before .store .ensures) (c .enum-told2 .given .1))
 
 pub store-spec : {M : Type 1} → statement M
 store-spec =

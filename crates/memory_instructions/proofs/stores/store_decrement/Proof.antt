@@ -1,9 +1,9 @@
 -- `store_decrement` stores Rm below Rn and steps Rn back, or faults with nothing changed.
 -- Assumes nothing.
 use mathlib.Core.Path.{refl, sym}
-use Rattle.instructions.specs.Promises.{state}
+use Rattle.arithmetic.specs.Addresses.{following}
+use Rattle.instructions.specs.Promises.{bytes, state}
 use Rattle.instructions.specs.State.{reg, withReg}
-use Rattle.instructions.specs.Shapes.{bytes}
 use Rattle.instructions.proofs.Families.{store-decrement as mov-decrement}
 use Rattle.instructions.proofs.Answers.{store-done, store-failed}
 use borrow.Author.Needs.{needs}
@@ -57,8 +57,8 @@ returns c = λ k.
     let a = c .before .before .before .before .before .before .before .before .before .before .before .args in
     let s = state (a .r .now) (k) (a .memory .now) in
     let bs = c .before .before .before .before .before .before .before .before .before .bytes .ensures in
-    rw (mov-decrement (a .size) (a .m) (a .n) s, sym bs, sym (c .before .before .before .before .before .before .before .sub .ensures), bs)
-    (store-done (bytes (a .size)) (c .before .before .before .before .before .before .before .sub .result) (reg (a .m) s) (withReg (a .n) (c .before .before .before .before .before .before .before .sub .result) s) s _ _ (c .before .before .before .before .store .ensures) (c .enum-told .given .1))
+    rw (mov-decrement (a .size) (a .m) (a .n) (following (s .control .pc)) s, sym bs, sym (c .before .before .before .before .before .before .before .sub .ensures), bs)
+    (store-done (bytes (a .size)) (c .before .before .before .before .before .before .before .sub .result) (reg (a .m) s) s (withReg (a .n) (c .before .before .before .before .before .before .before .sub .result)) _ _ (c .before .before .before .before .store .ensures) (c .enum-told .given .1))
 
 same-length-2 : tie.Need-same-length-2
 same-length-2 c = search needs
@@ -68,8 +68,8 @@ returns-2 c = λ k.
     let a = c .before .before .before .before .before .before .before .before .before .before .before .args in
     let s = state (a .r .now) (k) (a .memory .now) in
     let bs = c .before .before .before .before .before .before .before .before .before .bytes .ensures in
-    rw (mov-decrement (a .size) (a .m) (a .n) s, sym bs, sym (c .before .before .before .before .before .before .before .sub .ensures), bs)
-    (store-failed (bytes (a .size)) (c .before .before .before .before .before .before .before .sub .result) (reg (a .m) s) (withReg (a .n) (c .before .before .before .before .before .before .before .sub .result) s) s _ _ (c .before .before .before .before .store .ensures) (c .enum-told2 .given .1))
+    rw (mov-decrement (a .size) (a .m) (a .n) (following (s .control .pc)) s, sym bs, sym (c .before .before .before .before .before .before .before .sub .ensures), bs)
+    (store-failed (bytes (a .size)) (c .before .before .before .before .before .before .before .sub .result) (reg (a .m) s) s (withReg (a .n) (c .before .before .before .before .before .before .before .sub .result)) _ _ (c .before .before .before .before .store .ensures) (c .enum-told2 .given .1))
 
 pub store-decrement-spec : {M : Type 1} → statement M
 store-decrement-spec =

@@ -1,5 +1,6 @@
 -- `load_control` writes the register from Rm.
 -- Assumes nothing.
+use Rattle.arithmetic.specs.Addresses.{following}
 use Rattle.instructions.specs.Promises.{state}
 use Rattle.instructions.proofs.Families.{load-control}
 use borrow.Author.Needs.{needs}
@@ -22,7 +23,7 @@ with-register-requires c κs = search needs
 returns : tie.Need-returns
 returns c = λ memory.
     let a = c .before .before .args in
-    rw (load-control (a .register) (a .m) (state (a .r .now) (a .control) memory), c .with-register .ensures)
+    rw (load-control (a .register) (a .m) (following (a .control .pc)) (state (a .r .now) (a .control) memory), c .with-register .ensures)
 
 pub load-control-spec : {M : Type 1} → statement M
 load-control-spec =

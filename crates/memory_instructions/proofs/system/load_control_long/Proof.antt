@@ -1,6 +1,7 @@
 -- `load_control_long` steps Rm on and writes the register, or faults with nothing changed.
 -- Assumes nothing.
 use mathlib.Core.Path.{refl, sym}
+use Rattle.arithmetic.specs.Addresses.{following}
 use Rattle.instructions.specs.Promises.{state}
 use Rattle.instructions.proofs.Families.{load-control-long}
 use Rattle.instructions.proofs.Answers.{met}
@@ -42,11 +43,11 @@ enum-told c = search needs
 
 returns : tie.Need-returns
 returns c = let a = c .before .before .before .before .before .before .before .before .args in
-    rw (load-control-long (a .register) (a .m) (state (a .r .now) (a .control) (a .memory .now)), met (c .before .before .before .before .before .load .ensures) (c .before .before .before .v .given .1), c .with-register .ensures, c .before .wrapping-add-u32 .ensures)
+    rw (load-control-long (a .register) (a .m) (following (a .control .pc)) (state (a .r .now) (a .control) (a .memory .now)), met (c .before .before .before .before .before .load .ensures) (c .before .before .before .v .given .1), c .with-register .ensures, c .before .wrapping-add-u32 .ensures)
 
 returns-2 : tie.Need-returns-2
 returns-2 c = let a = c .before .before .before .before .before .args in
-    rw (load-control-long (a .register) (a .m) (state (a .r .now) (a .control) (a .memory .now)), met (c .before .before .load .ensures) (c .enum-told .given .1))
+    rw (load-control-long (a .register) (a .m) (following (a .control .pc)) (state (a .r .now) (a .control) (a .memory .now)), met (c .before .before .load .ensures) (c .enum-told .given .1))
 
 pub load-control-long-spec : {M : Type 1} → statement M
 load-control-long-spec =

@@ -1,5 +1,6 @@
 -- `store_control` sets Rn from the register.
 -- Assumes nothing.
+use Rattle.arithmetic.specs.Addresses.{following}
 use Rattle.instructions.specs.Promises.{state}
 use Rattle.instructions.proofs.Families.{store-control}
 use borrow.Author.Needs.{needs}
@@ -21,7 +22,7 @@ element-write-r c = search needs
 returns : tie.Need-returns
 returns c = λ memory.
     let a = c .before .args in
-    rw (store-control (a .register) (a .n) (state (a .r .now) (a .control) memory), c .register .ensures)
+    rw (store-control (a .register) (a .n) (following (a .control .pc)) (state (a .r .now) (a .control) memory), c .register .ensures)
 
 pub store-control-spec : {M : Type 1} → statement M
 store-control-spec = tie.close (tie.spec register-requires cast-r mul-r element-write-r returns)

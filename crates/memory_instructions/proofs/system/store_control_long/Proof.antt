@@ -1,6 +1,7 @@
 -- `store_control_long` stores the register below Rn and steps Rn back, or faults with nothing changed.
 -- Assumes nothing.
 use mathlib.Core.Path.{refl, sym}
+use Rattle.arithmetic.specs.Addresses.{following}
 use Rattle.instructions.specs.Promises.{state}
 use Rattle.instructions.specs.State.{withReg}
 use Rattle.instructions.proofs.Families.{store-control-long}
@@ -45,8 +46,8 @@ same-length c = search needs
 returns : tie.Need-returns
 returns c = let a = c .before .before .before .before .before .before .before .before .before .before .args in
     let s = state (a .r .now) (a .control) (a .memory .now) in
-    rw (store-control-long (a .register) (a .n) s, sym (c .before .before .before .before .before .before .before .sub .ensures), sym (c .before .before .before .before .before .register .ensures))
-    (store-done 4 (c .before .before .before .before .before .before .before .sub .result) (c .before .before .before .before .before .register .result) (withReg (a .n) (c .before .before .before .before .before .before .before .sub .result) s) s _ _ (c .before .before .before .before .store .ensures) (c .enum-told .given .1))
+    rw (store-control-long (a .register) (a .n) (following (s .control .pc)) s, sym (c .before .before .before .before .before .before .before .sub .ensures), sym (c .before .before .before .before .before .register .ensures))
+    (store-done 4 (c .before .before .before .before .before .before .before .sub .result) (c .before .before .before .before .before .register .result) s (withReg (a .n) (c .before .before .before .before .before .before .before .sub .result)) _ _ (c .before .before .before .before .store .ensures) (c .enum-told .given .1))
 
 same-length-2 : tie.Need-same-length-2
 same-length-2 c = search needs
@@ -54,8 +55,8 @@ same-length-2 c = search needs
 returns-2 : tie.Need-returns-2
 returns-2 c = let a = c .before .before .before .before .before .before .before .before .before .before .args in
     let s = state (a .r .now) (a .control) (a .memory .now) in
-    rw (store-control-long (a .register) (a .n) s, sym (c .before .before .before .before .before .before .before .sub .ensures), sym (c .before .before .before .before .before .register .ensures))
-    (store-failed 4 (c .before .before .before .before .before .before .before .sub .result) (c .before .before .before .before .before .register .result) (withReg (a .n) (c .before .before .before .before .before .before .before .sub .result) s) s _ _ (c .before .before .before .before .store .ensures) (c .enum-told2 .given .1))
+    rw (store-control-long (a .register) (a .n) (following (s .control .pc)) s, sym (c .before .before .before .before .before .before .before .sub .ensures), sym (c .before .before .before .before .before .register .ensures))
+    (store-failed 4 (c .before .before .before .before .before .before .before .sub .result) (c .before .before .before .before .before .register .result) s (withReg (a .n) (c .before .before .before .before .before .before .before .sub .result)) _ _ (c .before .before .before .before .store .ensures) (c .enum-told2 .given .1))
 
 pub store-control-long-spec : {M : Type 1} → statement M
 store-control-long-spec =

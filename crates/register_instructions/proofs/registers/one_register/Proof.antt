@@ -32,7 +32,7 @@ with-t-requires c κs = search needs
 returns : tie.Need-returns
 returns c = λ memory k.
     let a = c .before .before .before .before .args in
-    rw (c .with-t .ensures) (c .before .of-one-register .ensures _ 0 (a .n) (state (a .r .now) (withSr (a .sr .now) k) memory) refl refl refl)
+    rw (c .with-t .ensures) (c .before .of-one-register .ensures _ 0 (a .n) _ (state (a .r .now) (withSr (a .sr .now) k) memory) refl refl refl)
 
 pub one-register-spec : {M : Type 1} → statement M
 one-register-spec =

@@ -49,31 +49,31 @@ tst-requires c κs = search needs
 
 returns : tie.Need-returns
 unfolding execute
-returns c = λ m n s p q. rw (c .before .enum-told .given .1, c .cmp-eq .ensures, p, q)
+returns c = λ m n pc s p q. rw (c .before .enum-told .given .1, c .cmp-eq .ensures, p, q)
 
 returns-2 : tie.Need-returns-2
 unfolding execute
-returns-2 c = λ m n s p q. rw (c .before .enum-told2 .given .1, c .cmp-ge .ensures, p, q)
+returns-2 c = λ m n pc s p q. rw (c .before .enum-told2 .given .1, c .cmp-ge .ensures, p, q)
 
 returns-3 : tie.Need-returns-3
 unfolding execute
-returns-3 c = λ m n s p q. rw (c .before .enum-told3 .given .1, c .cmp-gt .ensures, p, q)
+returns-3 c = λ m n pc s p q. rw (c .before .enum-told3 .given .1, c .cmp-gt .ensures, p, q)
 
 returns-4 : tie.Need-returns-4
 unfolding execute
-returns-4 c = λ m n s p q. rw (c .before .enum-told4 .given .1, c .cmp-hi .ensures, p, q)
+returns-4 c = λ m n pc s p q. rw (c .before .enum-told4 .given .1, c .cmp-hi .ensures, p, q)
 
 returns-5 : tie.Need-returns-5
 unfolding execute
-returns-5 c = λ m n s p q. rw (c .before .enum-told5 .given .1, c .cmp-hs .ensures, p, q)
+returns-5 c = λ m n pc s p q. rw (c .before .enum-told5 .given .1, c .cmp-hs .ensures, p, q)
 
 returns-6 : tie.Need-returns-6
 unfolding execute
-returns-6 c = λ m n s p q. rw (c .before .enum-told6 .given .1, c .cmp-str .ensures, p, q)
+returns-6 c = λ m n pc s p q. rw (c .before .enum-told6 .given .1, c .cmp-str .ensures, p, q)
 
 returns-7 : tie.Need-returns-7
 unfolding execute
-returns-7 c = λ m n s p q. rw (c .before .enum-told7 .given .1, c .tst .ensures, p, q)
+returns-7 c = λ m n pc s p q. rw (c .before .enum-told7 .given .1, c .tst .ensures, p, q)
 
 pub of-compare-spec : {M : Type 1} → statement M
 of-compare-spec =

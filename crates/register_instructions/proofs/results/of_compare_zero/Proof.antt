@@ -19,11 +19,11 @@ cmp-pz-requires c κs = search needs
 
 returns : tie.Need-returns
 unfolding execute
-returns c = λ a m n s p q. rw (c .before .enum-told .given .1, c .cmp-pl .ensures, q)
+returns c = λ a m n pc s p q. rw (c .before .enum-told .given .1, c .cmp-pl .ensures, q)
 
 returns-2 : tie.Need-returns-2
 unfolding execute
-returns-2 c = λ a m n s p q. rw (c .before .enum-told2 .given .1, c .cmp-pz .ensures, q)
+returns-2 c = λ a m n pc s p q. rw (c .before .enum-told2 .given .1, c .cmp-pz .ensures, q)
 
 pub of-compare-zero-spec : {M : Type 1} → statement M
 of-compare-zero-spec =
