@@ -161,121 +161,121 @@ rewrite-pc-requires c κs = rewrites (c .before .before .before .before .before 
 returns : tie.Need-returns
 unfolding execute
 returns c = let a = c .before .before .before .before .before .before .before .before .before .args in
-    rw (c .enum-told .given .1) (anywhere (a .slot) Undefined (state (a .r .now) (control (a .pc) (a .sr .now) (a .gbr .now) (a .vbr .now) (a .pr .now) (a .mach .now) (a .macl .now)) (a .memory .now)) _ refl refl)
+    rw (c .enum-told .given .1) (anywhere (a .slot) Undefined _ (state (a .r .now) (control (a .pc) (a .sr .now) (a .gbr .now) (a .vbr .now) (a .pr .now) (a .mach .now) (a .macl .now)) (a .memory .now)) _ refl refl)
 
 returns-2 : tie.Need-returns-2
 returns-2 c = let a = c .before .before .before .before .before .before .before .before .before .before .before .before .before .before .args in
-    rw (c .before .before .before .before .before .meaning .given .1) (anywhere (a .slot) _ _ _ refl (c .no-operand .ensures (control (a .pc) (a .sr .now) (a .gbr .now) (a .vbr .now) (a .pr .now) (a .mach .now) (a .macl .now)) (a .r .now) (a .memory .now)))
+    rw (c .before .before .before .before .before .meaning .given .1) (anywhere (a .slot) _ _ _ _ refl (c .no-operand .ensures (control (a .pc) (a .sr .now) (a .gbr .now) (a .vbr .now) (a .pr .now) (a .mach .now) (a .macl .now)) (a .r .now) (a .memory .now)))
 
 returns-3 : tie.Need-returns-3
 returns-3 c = let a = c .before .before .before .before .before .before .before .before .before .before .before .before .before .args in
-    rw (c .before .before .before .before .meaning2 .given .1) (anywhere (a .slot) _ _ _ refl (c .one-register .ensures (a .memory .now) (control (a .pc) (a .sr .now) (a .gbr .now) (a .vbr .now) (a .pr .now) (a .mach .now) (a .macl .now))))
+    rw (c .before .before .before .before .meaning2 .given .1) (anywhere (a .slot) _ _ _ _ refl (c .one-register .ensures (a .memory .now) (control (a .pc) (a .sr .now) (a .gbr .now) (a .vbr .now) (a .pr .now) (a .mach .now) (a .macl .now))))
 
 returns-4 : tie.Need-returns-4
 returns-4 c = let a = c .before .before .before .before .before .before .before .before .before .before .before .before .before .args in
-    rw (c .before .before .before .before .meaning3 .given .1) (anywhere (a .slot) _ _ _ refl (c .compare-zero .ensures (a .memory .now) (control (a .pc) (a .sr .now) (a .gbr .now) (a .vbr .now) (a .pr .now) (a .mach .now) (a .macl .now))))
+    rw (c .before .before .before .before .meaning3 .given .1) (anywhere (a .slot) _ _ _ _ refl (c .compare-zero .ensures (a .memory .now) (control (a .pc) (a .sr .now) (a .gbr .now) (a .vbr .now) (a .pr .now) (a .mach .now) (a .macl .now))))
 
 returns-5 : tie.Need-returns-5
 returns-5 c = let a = c .before .before .before .before .before .before .before .before .before .before .before .before .before .args in
-    rw (c .before .before .before .before .meaning4 .given .1) (anywhere (a .slot) _ _ _ refl (c .two-registers .ensures (a .memory .now) (control (a .pc) (a .sr .now) (a .gbr .now) (a .vbr .now) (a .pr .now) (a .mach .now) (a .macl .now))))
+    rw (c .before .before .before .before .meaning4 .given .1) (anywhere (a .slot) _ _ _ _ refl (c .two-registers .ensures (a .memory .now) (control (a .pc) (a .sr .now) (a .gbr .now) (a .vbr .now) (a .pr .now) (a .mach .now) (a .macl .now))))
 
 returns-6 : tie.Need-returns-6
 returns-6 c = let a = c .before .before .before .before .before .before .before .before .before .before .before .before .before .args in
-    rw (c .before .before .before .before .meaning5 .given .1) (anywhere (a .slot) _ _ _ refl (c .compare .ensures (a .memory .now) (control (a .pc) (a .sr .now) (a .gbr .now) (a .vbr .now) (a .pr .now) (a .mach .now) (a .macl .now))))
+    rw (c .before .before .before .before .meaning5 .given .1) (anywhere (a .slot) _ _ _ _ refl (c .compare .ensures (a .memory .now) (control (a .pc) (a .sr .now) (a .gbr .now) (a .vbr .now) (a .pr .now) (a .mach .now) (a .macl .now))))
 
 returns-7 : tie.Need-returns-7
 returns-7 c = let a = c .before .before .before .before .before .before .before .before .before .before .before .before .before .args in
-    rw (c .before .before .before .before .meaning6 .given .1) (anywhere (a .slot) _ _ _ refl (c .divide .ensures (a .memory .now) (control (a .pc) (a .sr .now) (a .gbr .now) (a .vbr .now) (a .pr .now) (a .mach .now) (a .macl .now))))
+    rw (c .before .before .before .before .meaning6 .given .1) (anywhere (a .slot) _ _ _ _ refl (c .divide .ensures (a .memory .now) (control (a .pc) (a .sr .now) (a .gbr .now) (a .vbr .now) (a .pr .now) (a .mach .now) (a .macl .now))))
 
 returns-8 : tie.Need-returns-8
 returns-8 c = let a = c .before .before .before .before .before .before .before .before .before .before .before .before .before .before .args in
-    rw (c .before .before .before .before .before .meaning7 .given .1) (anywhere (a .slot) _ _ _ refl (c .multiply .ensures (control (a .pc) (a .sr .now) (a .gbr .now) (a .vbr .now) (a .pr .now) (a .mach .now) (a .macl .now)) (a .memory .now)))
+    rw (c .before .before .before .before .before .meaning7 .given .1) (anywhere (a .slot) _ _ _ _ refl (c .multiply .ensures (control (a .pc) (a .sr .now) (a .gbr .now) (a .vbr .now) (a .pr .now) (a .mach .now) (a .macl .now)) (a .memory .now)))
 
 same-length : tie.Need-same-length
 same-length c = search needs
 
 returns-9 : tie.Need-returns-9
 returns-9 c = let a = c .before .before .before .before .before .before .before .before .before .before .before .before .before .before .before .args in
-    rw (c .before .before .before .before .before .before .meaning8 .given .1) (anywhere (a .slot) _ _ _ refl (c .multiply-add .ensures (control (a .pc) (a .sr .now) (a .gbr .now) (a .vbr .now) (a .pr .now) (a .mach .now) (a .macl .now))))
+    rw (c .before .before .before .before .before .before .meaning8 .given .1) (anywhere (a .slot) _ _ _ _ refl (c .multiply-add .ensures (control (a .pc) (a .sr .now) (a .gbr .now) (a .vbr .now) (a .pr .now) (a .mach .now) (a .macl .now))))
 
 returns-10 : tie.Need-returns-10
 returns-10 c = let a = c .before .before .before .before .before .before .before .before .before .before .before .before .args in
-    rw (c .before .before .before .meaning9 .given .1) (anywhere (a .slot) _ _ _ refl (c .immediate .ensures (control (a .pc) (a .sr .now) (a .gbr .now) (a .vbr .now) (a .pr .now) (a .mach .now) (a .macl .now)) (a .memory .now)))
+    rw (c .before .before .before .meaning9 .given .1) (anywhere (a .slot) _ _ _ _ refl (c .immediate .ensures (control (a .pc) (a .sr .now) (a .gbr .now) (a .vbr .now) (a .pr .now) (a .mach .now) (a .macl .now)) (a .memory .now)))
 
 returns-11 : tie.Need-returns-11
 returns-11 c = let a = c .before .before .before .before .before .before .before .before .before .before .before .before .before .args in
-    rw (c .before .before .before .before .meaning10 .given .1) (anywhere (a .slot) _ _ _ refl (c .immediate-r0 .ensures (a .memory .now) (control (a .pc) (a .sr .now) (a .gbr .now) (a .vbr .now) (a .pr .now) (a .mach .now) (a .macl .now))))
+    rw (c .before .before .before .before .meaning10 .given .1) (anywhere (a .slot) _ _ _ _ refl (c .immediate-r0 .ensures (a .memory .now) (control (a .pc) (a .sr .now) (a .gbr .now) (a .vbr .now) (a .pr .now) (a .mach .now) (a .macl .now))))
 
 same-length-2 : tie.Need-same-length-2
 same-length-2 c = search needs
 
 returns-12 : tie.Need-returns-12
 returns-12 c = let a = c .before .before .before .before .before .before .before .before .before .before .before .before .before .before .before .before .args in
-    rw (c .before .before .before .before .before .before .before .meaning11 .given .1) (anywhere (a .slot) _ _ _ refl (c .before .before .immediate-byte .ensures (control (a .pc) (a .sr .now) (a .gbr .now) (a .vbr .now) (a .pr .now) (a .mach .now) (a .macl .now))))
+    rw (c .before .before .before .before .before .before .before .meaning11 .given .1) (anywhere (a .slot) _ _ _ _ refl (c .before .before .immediate-byte .ensures (control (a .pc) (a .sr .now) (a .gbr .now) (a .vbr .now) (a .pr .now) (a .mach .now) (a .macl .now))))
 
 same-length-3 : tie.Need-same-length-3
 same-length-3 c = search needs
 
 returns-13 : tie.Need-returns-13
 returns-13 c = let a = c .before .before .before .before .before .before .before .before .before .before .before .before .before .args in
-    rw (c .before .before .before .before .meaning12 .given .1) (anywhere (a .slot) _ _ _ refl (c .load .ensures (control (a .pc) (a .sr .now) (a .gbr .now) (a .vbr .now) (a .pr .now) (a .mach .now) (a .macl .now))))
+    rw (c .before .before .before .before .meaning12 .given .1) (anywhere (a .slot) _ _ _ _ refl (c .load .ensures (control (a .pc) (a .sr .now) (a .gbr .now) (a .vbr .now) (a .pr .now) (a .mach .now) (a .macl .now))))
 
 same-length-4 : tie.Need-same-length-4
 same-length-4 c = search needs
 
 returns-14 : tie.Need-returns-14
 returns-14 c = let a = c .before .before .before .before .before .before .before .before .before .before .before .before .before .args in
-    rw (c .before .before .before .before .meaning13 .given .1) (anywhere (a .slot) _ _ _ refl (c .load-increment .ensures (control (a .pc) (a .sr .now) (a .gbr .now) (a .vbr .now) (a .pr .now) (a .mach .now) (a .macl .now))))
+    rw (c .before .before .before .before .meaning13 .given .1) (anywhere (a .slot) _ _ _ _ refl (c .load-increment .ensures (control (a .pc) (a .sr .now) (a .gbr .now) (a .vbr .now) (a .pr .now) (a .mach .now) (a .macl .now))))
 
 same-length-5 : tie.Need-same-length-5
 same-length-5 c = search needs
 
 returns-15 : tie.Need-returns-15
 returns-15 c = let a = c .before .before .before .before .before .before .before .before .before .before .before .before .before .before .before .args in
-    rw (c .before .before .before .before .before .before .meaning14 .given .1) (anywhere (a .slot) _ _ _ refl (c .before .before .store .ensures (control (a .pc) (a .sr .now) (a .gbr .now) (a .vbr .now) (a .pr .now) (a .mach .now) (a .macl .now))))
+    rw (c .before .before .before .before .before .before .meaning14 .given .1) (anywhere (a .slot) _ _ _ _ refl (c .before .before .store .ensures (control (a .pc) (a .sr .now) (a .gbr .now) (a .vbr .now) (a .pr .now) (a .mach .now) (a .macl .now))))
 
 same-length-6 : tie.Need-same-length-6
 same-length-6 c = search needs
 
 returns-16 : tie.Need-returns-16
 returns-16 c = let a = c .before .before .before .before .before .before .before .before .before .before .before .before .before .before .before .args in
-    rw (c .before .before .before .before .before .before .meaning15 .given .1) (anywhere (a .slot) _ _ _ refl (c .before .before .store-decrement .ensures (control (a .pc) (a .sr .now) (a .gbr .now) (a .vbr .now) (a .pr .now) (a .mach .now) (a .macl .now))))
+    rw (c .before .before .before .before .before .before .meaning15 .given .1) (anywhere (a .slot) _ _ _ _ refl (c .before .before .store-decrement .ensures (control (a .pc) (a .sr .now) (a .gbr .now) (a .vbr .now) (a .pr .now) (a .mach .now) (a .macl .now))))
 
 same-length-7 : tie.Need-same-length-7
 same-length-7 c = search needs
 
 returns-17 : tie.Need-returns-17
 returns-17 c = let a = c .before .before .before .before .before .before .before .before .before .before .before .before .before .args in
-    rw (c .before .before .before .before .meaning16 .given .1) (anywhere (a .slot) _ _ _ refl (c .relative .ensures (control (a .pc) (a .sr .now) (a .gbr .now) (a .vbr .now) (a .pr .now) (a .mach .now) (a .macl .now))))
+    rw (c .before .before .before .before .meaning16 .given .1) (anywhere (a .slot) _ _ _ _ refl (c .relative .ensures (control (a .pc) (a .sr .now) (a .gbr .now) (a .vbr .now) (a .pr .now) (a .mach .now) (a .macl .now))))
 
 returns-18 : tie.Need-returns-18
 returns-18 c = let a = c .before .before .before .before .before .before .before .before .before .before .before .before .args in
-    rw (c .before .before .before .meaning17 .given .1) (anywhere (a .slot) _ _ _ refl (at-the-same-pc _ (state (a .r .now) (control (a .pc) (a .sr .now) (a .gbr .now) (a .vbr .now) (a .pr .now) (a .mach .now) (a .macl .now)) (a .memory .now)) _ _ _ _ (c .load-control .ensures (a .memory .now))))
+    rw (c .before .before .before .meaning17 .given .1) (anywhere (a .slot) _ _ _ _ refl (at-the-same-pc _ _ (state (a .r .now) (control (a .pc) (a .sr .now) (a .gbr .now) (a .vbr .now) (a .pr .now) (a .mach .now) (a .macl .now)) (a .memory .now)) _ _ _ _ (c .load-control .ensures (a .memory .now))))
 
 same-length-8 : tie.Need-same-length-8
 same-length-8 c = search needs
 
 returns-19 : tie.Need-returns-19
 returns-19 c = let a = c .before .before .before .before .before .before .before .before .before .before .before .before .before .before .args in
-    rw (c .before .before .before .before .before .meaning18 .given .1) (anywhere (a .slot) _ _ _ refl (at-the-same-pc _ (state (a .r .now) (control (a .pc) (a .sr .now) (a .gbr .now) (a .vbr .now) (a .pr .now) (a .mach .now) (a .macl .now)) (a .memory .now)) _ _ _ _ (c .before .load-control-long .ensures)))
+    rw (c .before .before .before .before .before .meaning18 .given .1) (anywhere (a .slot) _ _ _ _ refl (at-the-same-pc _ _ (state (a .r .now) (control (a .pc) (a .sr .now) (a .gbr .now) (a .vbr .now) (a .pr .now) (a .mach .now) (a .macl .now)) (a .memory .now)) _ _ _ _ (c .before .load-control-long .ensures)))
 
 returns-20 : tie.Need-returns-20
 returns-20 c = let a = c .before .before .before .before .before .before .before .before .before .before .before .before .args in
-    rw (c .before .before .before .meaning19 .given .1) (anywhere (a .slot) _ _ _ refl (c .store-control .ensures (a .memory .now)))
+    rw (c .before .before .before .meaning19 .given .1) (anywhere (a .slot) _ _ _ _ refl (c .store-control .ensures (a .memory .now)))
 
 same-length-9 : tie.Need-same-length-9
 same-length-9 c = search needs
 
 returns-21 : tie.Need-returns-21
 returns-21 c = let a = c .before .before .before .before .before .before .before .before .before .before .before .before .before .before .before .args in
-    rw (c .before .before .before .before .before .before .meaning20 .given .1) (anywhere (a .slot) _ _ _ refl (c .before .before .store-control-long .ensures))
+    rw (c .before .before .before .before .before .before .meaning20 .given .1) (anywhere (a .slot) _ _ _ _ refl (c .before .before .store-control-long .ensures))
 
 same-length-10 : tie.Need-same-length-10
 same-length-10 c = search needs
 
 returns-22 : tie.Need-returns-22
 returns-22 c = let a = c .before .before .before .before .before .before .before .before .before .before .before .before .before .before .before .before .args in
-    rw (c .before .before .before .before .before .before .before .meaning21 .given .1) (anywhere (a .slot) _ _ _ refl (c .before .before .tas-b .ensures (control (a .pc) (a .sr .now) (a .gbr .now) (a .vbr .now) (a .pr .now) (a .mach .now) (a .macl .now))))
+    rw (c .before .before .before .before .before .before .before .meaning21 .given .1) (anywhere (a .slot) _ _ _ _ refl (c .before .before .tas-b .ensures (control (a .pc) (a .sr .now) (a .gbr .now) (a .vbr .now) (a .pr .now) (a .mach .now) (a .macl .now))))
 
 same-length-11 : tie.Need-same-length-11
 same-length-11 c = search needs
