@@ -4,3 +4,4 @@ pub mod Digits
 pub mod Rewriting
 pub mod Rows
 pub mod Table
+pub mod Widths

@@ -32,33 +32,3 @@ rewritesPc (Branch op d) = true
 rewritesPc (BranchTo op m) = true
 rewritesPc (Return op) = true
 rewritesPc (Trapa i) = true
-
--- The code table lacks the word.
-abbrev pub undefined : Meaning → Bool
-undefined Undefined = true
-undefined (NoOperand op) = false
-undefined (OneRegister op n) = false
-undefined (CompareZero op n) = false
-undefined (TwoRegisters op m n) = false
-undefined (Compare op m n) = false
-undefined (Divide op m n) = false
-undefined (Multiply op m n) = false
-undefined (MultiplyAdd op m n) = false
-undefined (Immediate op i n) = false
-undefined (ImmediateR0 op i) = false
-undefined (ImmediateByte op i) = false
-undefined (Load size address n) = false
-undefined (LoadIncrement size m n) = false
-undefined (Store size m address) = false
-undefined (StoreDecrement size m n) = false
-undefined (Relative op d n) = false
-undefined (LoadControl register m) = false
-undefined (LoadControlLong register m) = false
-undefined (StoreControl register n) = false
-undefined (StoreControlLong register n) = false
-undefined (TasB n) = false
-undefined (BranchIf op d) = false
-undefined (Branch op d) = false
-undefined (BranchTo op m) = false
-undefined (Return op) = false
-undefined (Trapa i) = false
