@@ -1,5 +1,5 @@
--- What may not stand in a slot: document 01, "One step", item 3. An instruction that rewrites the PC (BF, BT, BF/S, BT/S, BRA, BRAF, BSR,
--- BSRF, JMP, JSR, RTS, RTE, TRAPA), and an undefined word.
+-- The instructions that rewrite the PC, which may not stand in a slot: BF, BT, BF/S, BT/S, BRA, BRAF, BSR, BSRF, JMP, JSR, RTS, RTE,
+-- TRAPA (document 01, "One step", item 3).
 use mathlib.Core.Bool.{Bool, true, false}
 use Rattle.decoder.specs.declared.meaning.Meaning.{Meaning}
 use Rattle.decoder.specs.declared.meaning.Meaning.the-variants.{Undefined, NoOperand, OneRegister, CompareZero, TwoRegisters, Compare, Divide, Multiply, MultiplyAdd, Immediate, ImmediateR0, ImmediateByte, Load, LoadIncrement, Store, StoreDecrement, Relative, LoadControl, LoadControlLong, StoreControl, StoreControlLong, TasB, BranchIf, Branch, BranchTo, Return, Trapa}
