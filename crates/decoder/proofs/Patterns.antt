@@ -3,16 +3,16 @@
 -- Assumes nothing.
 use mathlib.Core.Path.{_≡_, refl}
 use mathlib.Core.Bool.{Bool, true, false, _&&_, _||_, not, cond, Bool·beq}
-use mathlib.Core.List.{List, [], _∷_, List·Memᴰ, map}
+use mathlib.Core.List.{[], _∷_, map}
 use Prim.Native.String.{String, len, slice}
-use lib.Dec.{T, eqb}
+use lib.Dec.{eqb}
 use lib.Text.{eqt}
 use Rattle.decoder.specs.Pattern.{Fields}
 use Rattle.decoder.specs.Table.{Row, table}
 use Rattle.decoder.specs.declared.meaning.Meaning.the-variants.{BranchIf, TwoRegisters}
 use Rattle.decoder.specs.declared.meaning.BranchIf.the-variants.{Bf}
 use Rattle.decoder.specs.declared.meaning.TwoRegisters.the-variants.{And}
-use Rattle.decoder.proofs.Rows.{at, every}
+use Rattle.decoder.proofs.Rows.{every}
 use Rattle.decoder.proofs.Widths.{within}
 
 abbrev binary : String → Bool
@@ -44,7 +44,7 @@ tooWide l =
 abbrev reads : String → Row → Bool
 reads l r = not (within (r .means (tooWide l)))
 
-abbrev pub wellFormed : Row → Bool
+abbrev wellFormed : Row → Bool
 wellFormed r =
     eqb (len (r .pattern)) 16 && allWhole (r .pattern) && Bool·beq (reads "nnnn" r) (has "nnnn" (r .pattern)) &&
     Bool·beq (reads "mmmm" r) (has "mmmm" (r .pattern)) && Bool·beq (reads "iiii" r) (has "iiii" (r .pattern)) &&
@@ -53,9 +53,6 @@ wellFormed r =
 pub patterns-well-formed : every wellFormed table ≡ true
 unfolding table
 patterns-well-formed = refl
-
-pub row-well-formed : {r : Row} → List·Memᴰ r table → T (wellFormed r)
-row-well-formed = at wellFormed table (rw patterns-well-formed tt)
 
 -- What the test refuses: the codes of AND and BF as the scan has them (document 01: ten n's, six d's), a letter in place of a digit, and
 -- a meaning that passes over a field.

@@ -31,7 +31,7 @@ abbrev pub howMany : List Row → Nibbles → ℕ
 howMany [] w = 0
 howMany (r ∷ rest) w = counted (rowMatches w r) (howMany rest w)
 
-pub at : (f : Row → Bool) (rows : List Row) {q : Row} → T (every f rows) → List·Memᴰ q rows → T (f q)
+at : (f : Row → Bool) (rows : List Row) {q : Row} → T (every f rows) → List·Memᴰ q rows → T (f q)
 at f (r ∷ rest) t (List·Memᴰ·head e) = subst (λ z. T (f z)) (sym e) (left (f r) _ t)
 at f (r ∷ rest) t (List·Memᴰ·tail h) = at f rest (right (f r) _ t) h
 
