@@ -1,13 +1,13 @@
 -- Laws over any list of rows: what a test that passes at each row says of the row that a word finds.
 -- Assumes nothing.
 use mathlib.Core.Path.{_≡_, refl, sym, _∙_, ap, subst}
-use mathlib.Core.Bool.{Bool, true, false, _&&_, not, cond}
+use mathlib.Core.Bool.{Bool, true, false, _&&_, not, cond, false≢true}
 use mathlib.Core.List.{List, [], _∷_, List·Memᴰ, List·Memᴰ·head, List·Memᴰ·tail}
 use Prim.Native.Nat.{ℕ, suc, _≤_}
 use native.Mathlib.Omega.{arith}
 use lib.Dec.{T}
 use Rattle.decoder.specs.Pattern.{Nibbles}
-use Rattle.decoder.specs.Code.{among, counted, howMany, rowMatches, rowMeans}
+use Rattle.decoder.specs.Code.{among, noneMatches, rowMatches, rowMeans}
 use Rattle.decoder.specs.Table.{Row}
 use Rattle.decoder.specs.declared.meaning.Meaning.{Meaning}
 use Rattle.decoder.specs.declared.meaning.Meaning.the-variants.{Undefined}
@@ -22,6 +22,15 @@ abbrev pub allApart : (Row → Row → Bool) → List Row → Bool
 allApart f [] = true
 allApart f (r ∷ rest) = every (f r) rest && allApart f rest
 
+-- How many of some rows match a word.
+abbrev counted : Bool → ℕ → ℕ
+counted true k = suc k
+counted false k = k
+
+abbrev pub howMany : List Row → Nibbles → ℕ
+howMany [] w = 0
+howMany (r ∷ rest) w = counted (rowMatches w r) (howMany rest w)
+
 at : (f : Row → Bool) (rows : List Row) {q : Row} → T (every f rows) → List·Memᴰ q rows → T (f q)
 at f (r ∷ rest) t (List·Memᴰ·head e) = subst (λ z. T (f z)) (sym e) (left (f r) _ t)
 at f (r ∷ rest) t (List·Memᴰ·tail h) = at f rest (right (f r) _ t) h
@@ -34,7 +43,7 @@ either-way : (P : Meaning → Type 0) {a c : Meaning} (b : Bool) → (T b → P 
 either-way P true x y = x tt
 either-way P false x y = y tt
 
-paired : (P : Meaning → ℕ → Type 0) {a c : Meaning} {k : ℕ} (b : Bool) → P a (suc k) → P c k → P (cond b a c) (counted b k)
+paired : (P : Meaning → Bool → Type 0) {a c : Meaning} {k : Bool} (b : Bool) → P a false → P c k → P (cond b a c) (not b && k)
 paired P true x y = x
 paired P false x y = y
 
@@ -66,19 +75,19 @@ module _ (w : Nibbles) where
   -- A word that means Undefined matches none of the rows, where no row means Undefined, and the other way round.
   pub undefined-none :
       (f : Meaning → Bool) → (T (f Undefined) → ⊥) → (rows : List Row) → T (every (λ r. f (rowMeans w r)) rows) →
-      among rows w ≡ Undefined → howMany rows w ≡ 0
+      among rows w ≡ Undefined → noneMatches rows w ≡ true
   unfolding among
   undefined-none f u [] t e = refl
   undefined-none f u (r ∷ rest) t e =
-      paired (λ x k. x ≡ Undefined → k ≡ 0) (rowMatches w r)
+      paired (λ x none. x ≡ Undefined → none ≡ true) (rowMatches w r)
       (λ d. absurd (u (subst (λ x. T (f x)) d (left (f (rowMeans w r)) _ t))))
       (undefined-none f u rest (right (f (rowMeans w r)) _ t)) e
 
-  pub none-undefined : (rows : List Row) → howMany rows w ≡ 0 → among rows w ≡ Undefined
+  pub none-undefined : (rows : List Row) → noneMatches rows w ≡ true → among rows w ≡ Undefined
   unfolding among
   none-undefined [] e = refl
   none-undefined (r ∷ rest) e =
-      paired (λ x k. k ≡ 0 → x ≡ Undefined) (rowMatches w r) (λ d. absurd (omega arith)) (none-undefined rest) e
+      paired (λ x none. none ≡ true → x ≡ Undefined) (rowMatches w r) (λ d. absurd (false≢true d)) (none-undefined rest) e
 
   -- Rows of which each two are apart: at most one matches, and whichever does gives the meaning.
   module _ (f : Row → Row → Bool) (out : (r q : Row) → T (f r q) → T (rowMatches w r) → rowMatches w q ≡ false) where

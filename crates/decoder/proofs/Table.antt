@@ -8,16 +8,19 @@ use Prim.Native.Nat.{ℕ, _+_, _*_, _/_, _%_, _≤_}
 use Prim.Native.String.{String}
 use native.Mathlib.Omega.{arith}
 use borrow.Author.Tests.{lt-ltb, ne-eqb}
+use denote.Enum.Declared.{tagOf}
 use lib.ListN.{length}
 use lib.Dec.{T, T-not, ltb, eqb, eqb→eq, eqb-refl}
 use Rattle.decoder.specs.Pattern.{Group, fixed, part, Code, Nibbles, nibbles, agrees, code, matches}
-use Rattle.decoder.specs.Code.{among, meaning, howMany, rowMatches, rowMeans}
+use Rattle.decoder.specs.Code.{among, meaning, rowMatches, rowMeans, unmatched}
 use Rattle.decoder.specs.Table.{Row, table}
-use Rattle.decoder.specs.Widths.{within}
-use Rattle.decoder.specs.Slot.{rewritesPc, undefined}
+use Rattle.decoder.specs.Slot.{rewritesPc}
+use Rattle.decoder.specs.declared.meaning.Meaning.{Meaning}
 use Rattle.decoder.specs.declared.meaning.Meaning.the-variants.{Undefined}
+use Rattle.decoder.proofs.meaning.Meaning.{the-type}
 use Rattle.decoder.proofs.Conjunction.{all-pass, one-fails}
-use Rattle.decoder.proofs.Rows.{every, allApart, at-most-one, whichever, means-all, undefined-none, none-undefined}
+use Rattle.decoder.proofs.Rows.{every, allApart, howMany, at-most-one, whichever, means-all, undefined-none, none-undefined}
+use Rattle.decoder.proofs.Widths.{within}
 
 -- Two codes that fix one nibble to two numbers.
 abbrev differ : Group → Group → Bool
@@ -40,8 +43,8 @@ disagrees (fixed a) (part s) x t m = absurd t
 disagrees (part s) (fixed b) x t m = absurd t
 disagrees (part s) (part u) x t m = absurd t
 
-unmatched : (w : Nibbles) (c d : Code) → T (apart c d) → T (matches c w) → matches d w ≡ false
-unmatched w c d t m =
+ruled-out : (w : Nibbles) (c d : Code) → T (apart c d) → T (matches c w) → matches d w ≡ false
+ruled-out w c d t m =
     let both = all-pass (agrees (c .top) (w .top)) (agrees (c .last) (w .last)) (agrees (c .third) (w .third)) _ m in
     one-fails _ _ _ _ (differ (c .top) (d .top)) (differ (c .last) (d .last)) (differ (c .third) (d .third)) (differ (c .second) (d .second))
     (λ x. disagrees (c .top) (d .top) (w .top) x (both .0))
@@ -56,6 +59,10 @@ named false s names = names
 abbrev namesWhere : (Row → Bool) → List Row → List String
 namesWhere f [] = []
 namesWhere f (r ∷ rest) = named (f r) (r .name) (namesWhere f rest)
+
+-- Undefined is the first variant of its enum.
+abbrev defined : Meaning → Bool
+defined x = not (eqb (tagOf the-type x) 0)
 
 pub rows-142 : length table ≡ 142
 unfolding table
@@ -74,17 +81,17 @@ module _ (w : ℕ) where
   -- No word matches two rows; so the order of the rows does not matter: whichever row matches gives the meaning.
   pub one-row : howMany table (nibbles w) ≤ 1
   unfolding table
-  one-row = at-most-one (nibbles w) rowsApart (λ r q. unmatched (nibbles w) (code (r .pattern)) (code (q .pattern))) table tt
+  one-row = at-most-one (nibbles w) rowsApart (λ r q. ruled-out (nibbles w) (code (r .pattern)) (code (q .pattern))) table tt
 
   pub whichever-row : (r : Row) → List·Memᴰ r table → T (rowMatches (nibbles w) r) → meaning w ≡ rowMeans (nibbles w) r
   unfolding meaning table
   whichever-row =
-      whichever (nibbles w) rowsApart (λ r q. unmatched (nibbles w) (code (r .pattern)) (code (q .pattern))) table tt
+      whichever (nibbles w) rowsApart (λ r q. ruled-out (nibbles w) (code (r .pattern)) (code (q .pattern))) table tt
 
   -- A word is undefined exactly when no row matches it.
-  pub undefined-when-unmatched : meaning w ≡ Undefined ↔ howMany table (nibbles w) ≡ 0
+  pub undefined-when-unmatched : meaning w ≡ Undefined ↔ unmatched w ≡ true
   unfolding meaning table
-  undefined-when-unmatched = (undefined-none (nibbles w) (λ x. not (undefined x)) (λ t. t) table tt, none-undefined (nibbles w) table)
+  undefined-when-unmatched = (undefined-none (nibbles w) defined (λ t. t) table tt, none-undefined (nibbles w) table)
 
   -- Every register number in a meaning is below 16, and each other field within its width.
   rows-within : every (λ r. within (rowMeans (nibbles w) r)) table ≡ true

@@ -1,7 +1,7 @@
 -- The meaning of a word: what the row that matches it says. A word that no row matches is undefined.
-use mathlib.Core.Bool.{Bool, true, false, cond}
+use mathlib.Core.Bool.{Bool, true, _&&_, not, cond}
 use mathlib.Core.List.{List, [], _∷_}
-use Prim.Native.Nat.{ℕ, suc}
+use Prim.Native.Nat.{ℕ}
 use Rattle.decoder.specs.Pattern.{Nibbles, nibbles, code, fields, matches}
 use Rattle.decoder.specs.Table.{Row, table}
 use Rattle.decoder.specs.declared.meaning.Meaning.{Meaning}
@@ -20,11 +20,10 @@ among (r ∷ rest) w = cond (rowMatches w r) (rowMeans w r) (among rest w)
 unfoldable pub meaning : ℕ → Meaning
 meaning w = among table (nibbles w)
 
--- How many of some rows match a word.
-abbrev pub counted : Bool → ℕ → ℕ
-counted true k = suc k
-counted false k = k
+-- The code table lacks the word: none of its rows matches it.
+abbrev pub noneMatches : List Row → Nibbles → Bool
+noneMatches [] w = true
+noneMatches (r ∷ rest) w = not (rowMatches w r) && noneMatches rest w
 
-abbrev pub howMany : List Row → Nibbles → ℕ
-howMany [] w = 0
-howMany (r ∷ rest) w = counted (rowMatches w r) (howMany rest w)
+abbrev pub unmatched : ℕ → Bool
+unmatched w = noneMatches table (nibbles w)

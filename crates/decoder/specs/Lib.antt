@@ -2,4 +2,3 @@ pub mod Pattern
 pub mod Table
 pub mod Code
 pub mod Slot
-pub mod Widths

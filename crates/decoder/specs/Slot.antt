@@ -1,5 +1,5 @@
--- What may not stand in a slot: document 01, "One step", item 3. An instruction that rewrites the PC (BF, BT, BF/S, BT/S, BRA, BRAF, BSR,
--- BSRF, JMP, JSR, RTS, RTE, TRAPA), and an undefined word.
+-- The instructions that rewrite the PC, which may not stand in a slot: BF, BT, BF/S, BT/S, BRA, BRAF, BSR, BSRF, JMP, JSR, RTS, RTE,
+-- TRAPA (document 01, "One step", item 3).
 use mathlib.Core.Bool.{Bool, true, false}
 use Rattle.decoder.specs.declared.meaning.Meaning.{Meaning}
 use Rattle.decoder.specs.declared.meaning.Meaning.the-variants.{Undefined, NoOperand, OneRegister, CompareZero, TwoRegisters, Compare, Divide, Multiply, MultiplyAdd, Immediate, ImmediateR0, ImmediateByte, Load, LoadIncrement, Store, StoreDecrement, Relative, LoadControl, LoadControlLong, StoreControl, StoreControlLong, TasB, BranchIf, Branch, BranchTo, Return, Trapa}
@@ -32,33 +32,3 @@ rewritesPc (Branch op d) = true
 rewritesPc (BranchTo op m) = true
 rewritesPc (Return op) = true
 rewritesPc (Trapa i) = true
-
--- The code table lacks the word.
-abbrev pub undefined : Meaning → Bool
-undefined Undefined = true
-undefined (NoOperand op) = false
-undefined (OneRegister op n) = false
-undefined (CompareZero op n) = false
-undefined (TwoRegisters op m n) = false
-undefined (Compare op m n) = false
-undefined (Divide op m n) = false
-undefined (Multiply op m n) = false
-undefined (MultiplyAdd op m n) = false
-undefined (Immediate op i n) = false
-undefined (ImmediateR0 op i) = false
-undefined (ImmediateByte op i) = false
-undefined (Load size address n) = false
-undefined (LoadIncrement size m n) = false
-undefined (Store size m address) = false
-undefined (StoreDecrement size m n) = false
-undefined (Relative op d n) = false
-undefined (LoadControl register m) = false
-undefined (LoadControlLong register m) = false
-undefined (StoreControl register n) = false
-undefined (StoreControlLong register n) = false
-undefined (TasB n) = false
-undefined (BranchIf op d) = false
-undefined (Branch op d) = false
-undefined (BranchTo op m) = false
-undefined (Return op) = false
-undefined (Trapa i) = false

@@ -1,7 +1,6 @@
 // What a 16-bit instruction word of the SH-2 means: document 000's code table (Table 5.9), as a function.
 mod code_map;
 mod meaning;
-mod slot;
 
 pub use code_map::decode;
 pub use meaning::Address;
@@ -24,4 +23,3 @@ pub use meaning::Relative;
 pub use meaning::Return;
 pub use meaning::Size;
 pub use meaning::TwoRegisters;
-pub use slot::rewrites_pc;

@@ -11,8 +11,7 @@ use Rattle.arithmetic.specs.Sums.{addv, dt, negc}
 use Rattle.arithmetic.specs.Transfers.{extsB}
 use Rattle.divide.specs.Divide.{div1}
 use Rattle.shifts.specs.Shifts.{rotcr, rotl, shar, shlr2}
-use Rattle.decoder.specs.Code.{among, meaning}
-use Rattle.decoder.specs.Slot.{undefined}
+use Rattle.decoder.specs.Code.{unmatched}
 use Rattle.decoder.specs.Table.{table}
 use Rattle.decoder.specs.declared.meaning.Meaning.the-variants.{BranchIf}
 use Rattle.decoder.specs.declared.meaning.BranchIf.the-variants.{Bf}
@@ -61,9 +60,9 @@ facts =
     fact "BF at H'200 with displacement H'80 and T 0" (target (execute (BranchIf Bf 0x80) (at 0x200) .flow) ∷ []) (0x104 ∷ []) ∷
     fact "DIV1 (Q, M 0) with Rm 3, Rn 1, T 1" (withQT (div1 3 1 0 0 1)) (0 ∷ 0 ∷ 1 ∷ []) ∷
     fact "DIV1 (Q, M 0) with Rm 3, Rn 1, T 0" (withQT (div1 3 1 0 0 0)) (0xffff_ffff ∷ 1 ∷ 0 ∷ []) ∷
-    fact "word H'FFFF" (truth (undefined (meaning 0xffff)) ∷ []) (1 ∷ []) ∷
+    fact "word H'FFFF" (truth (unmatched 0xffff) ∷ []) (1 ∷ []) ∷
     []
 
 pub all-hold : map (λ f. f .given) facts ≡ map (λ f. f .stated) facts
-unfolding execute meaning among table
+unfolding execute table
 all-hold = refl

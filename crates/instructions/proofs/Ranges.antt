@@ -17,7 +17,7 @@ use Rattle.memory.proofs.Bytes.{Bytes, written-bytes}
 use Rattle.memory.proofs.Laws.{load-small}
 use Rattle.multiply.specs.declared.Mac.{Mac}
 use Rattle.decoder.specs.Slot.{rewritesPc}
-use Rattle.decoder.specs.Widths.{within}
+use Rattle.decoder.proofs.Widths.{within}
 use Rattle.decoder.specs.declared.meaning.Meaning.{Meaning}
 use Rattle.decoder.specs.declared.meaning.Meaning.the-variants.{Undefined, NoOperand, OneRegister, CompareZero, TwoRegisters, Compare, Divide, Multiply, MultiplyAdd, Immediate, ImmediateR0, ImmediateByte, Load, LoadIncrement, Store, StoreDecrement, Relative, LoadControl, LoadControlLong, StoreControl, StoreControlLong, TasB, BranchIf, Branch, BranchTo, Return, Trapa}
 use Rattle.decoder.specs.declared.meaning.NoOperand.the-variants.{Clrmac, Clrt, Div0u, Nop, Sett, Sleep}

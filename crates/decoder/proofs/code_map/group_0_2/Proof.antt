@@ -11,26 +11,17 @@ use Rattle.decoder.proofs.code_map.group_0_2.Statement.{statement}
 use Rattle.decoder.proofs.code_map.group_0_2.Tie as tie
 
 abbrev keys : List ℕ
-keys = 2 ∷ 1 ∷ 0 ∷ []
-
-cast-n : tie.Need-cast-n
-cast-n c = search needs
-
-returns : tie.Need-returns
-unfolding among table
-returns c = arm _ (c .before .pre .0) refl (c .match .keys1) (c .before .pre .1) refl
-
-returns-2 : tie.Need-returns-2
-unfolding among table
-returns-2 c = arm _ (c .before .pre .0) refl (c .match .keys2) (c .before .pre .1) refl
-
-returns-3 : tie.Need-returns-3
-unfolding among table
-returns-3 c = arm _ (c .before .pre .0) refl (c .match .keys3) (c .before .pre .1) refl
+keys = 0x2 ∷ 0x1 ∷ 0x0 ∷ []
 
 returns-4 : tie.Need-returns-4
 unfolding table
-returns-4 c = undefined (is 0) anything (none-of keys) (is 2) _ (known (c .before .pre .0)) tt (no-key keys _ (c .match .rest)) (known (c .before .pre .1)) tt
+returns-4 c = undefined (is 0x0) anything (none-of keys) (is 0x2) _ (known (c .before .pre .0)) tt (no-key keys _ (c .match .rest)) (known (c .before .pre .1)) tt
 
 pub group-0-2-spec : {M : Type 1} → statement M
-group-0-2-spec = tie.close (tie.spec cast-n returns returns-2 returns-3 returns-4)
+unfolding among table
+group-0-2-spec =
+    tie.close
+    (tie.spec (search needs)
+    (λ c. arm _ (c .before .pre .0) refl (c .match .keys1) (c .before .pre .1) refl)
+    (λ c. arm _ (c .before .pre .0) refl (c .match .keys2) (c .before .pre .1) refl)
+    (λ c. arm _ (c .before .pre .0) refl (c .match .keys3) (c .before .pre .1) refl) returns-4)

@@ -11,22 +11,16 @@ use Rattle.decoder.proofs.code_map.group_0_3.Statement.{statement}
 use Rattle.decoder.proofs.code_map.group_0_3.Tie as tie
 
 abbrev keys : List ℕ
-keys = 2 ∷ 0 ∷ []
-
-cast-m : tie.Need-cast-m
-cast-m c = search needs
-
-returns : tie.Need-returns
-unfolding among table
-returns c = arm _ (c .before .pre .0) refl (c .match .keys1) (c .before .pre .1) refl
-
-returns-2 : tie.Need-returns-2
-unfolding among table
-returns-2 c = arm _ (c .before .pre .0) refl (c .match .keys2) (c .before .pre .1) refl
+keys = 0x2 ∷ 0x0 ∷ []
 
 returns-3 : tie.Need-returns-3
 unfolding table
-returns-3 c = undefined (is 0) anything (none-of keys) (is 3) _ (known (c .before .pre .0)) tt (no-key keys _ (c .match .rest)) (known (c .before .pre .1)) tt
+returns-3 c = undefined (is 0x0) anything (none-of keys) (is 0x3) _ (known (c .before .pre .0)) tt (no-key keys _ (c .match .rest)) (known (c .before .pre .1)) tt
 
 pub group-0-3-spec : {M : Type 1} → statement M
-group-0-3-spec = tie.close (tie.spec cast-m returns returns-2 returns-3)
+unfolding among table
+group-0-3-spec =
+    tie.close
+    (tie.spec (search needs)
+    (λ c. arm _ (c .before .pre .0) refl (c .match .keys1) (c .before .pre .1) refl)
+    (λ c. arm _ (c .before .pre .0) refl (c .match .keys2) (c .before .pre .1) refl) returns-3)

@@ -11,18 +11,11 @@ use Rattle.decoder.proofs.code_map.group_0_9.Statement.{statement}
 use Rattle.decoder.proofs.code_map.group_0_9.Tie as tie
 
 abbrev keys : List ℕ
-keys = 2 ∷ 1 ∷ 0 ∷ []
-
-cast-t7 : tie.Need-cast-t7
-cast-t7 c = search needs
-
-returns : tie.Need-returns
-unfolding among table
-returns c = arm _ (c .before .pre .0) refl (c .if1 .taken) (c .before .pre .1) refl
+keys = 0x2 ∷ 0x1 ∷ 0x0 ∷ []
 
 returns-2 : tie.Need-returns-2
 unfolding table
-returns-2 c = undefined (is 0) (none-of (0 ∷ [])) (none-of (2 ∷ [])) (is 9) _ (known (c .before .before .pre .0)) (no-key (0 ∷ []) _ (tt, c .if2 .taken)) (no-key (2 ∷ []) _ (tt, c .before .if1 .left)) (known (c .before .before .pre .1)) tt
+returns-2 c = undefined (is 0x0) (none-of (0x0 ∷ [])) (none-of (0x2 ∷ [])) (is 0x9) _ (known (c .before .before .pre .0)) (no-key (0x0 ∷ []) _ (tt, c .if2 .taken)) (no-key (0x2 ∷ []) _ (tt, c .before .if1 .left)) (known (c .before .before .pre .1)) tt
 
 returns-3 : tie.Need-returns-3
 unfolding among table
@@ -34,7 +27,12 @@ returns-4 c = arm _ (c .before .before .before .pre .0) (c .before .if2 .left) (
 
 returns-5 : tie.Need-returns-5
 unfolding table
-returns-5 c = undefined (is 0) anything (none-of keys) (is 9) _ (known (c .before .before .before .pre .0)) tt (no-key keys _ (c .match .rest, c .before .before .if1 .left)) (known (c .before .before .before .pre .1)) tt
+returns-5 c = undefined (is 0x0) anything (none-of keys) (is 0x9) _ (known (c .before .before .before .pre .0)) tt (no-key keys _ (c .match .rest, c .before .before .if1 .left)) (known (c .before .before .before .pre .1)) tt
 
 pub group-0-9-spec : {M : Type 1} → statement M
-group-0-9-spec = tie.close (tie.spec cast-t7 returns returns-2 returns-3 returns-4 returns-5)
+unfolding among table
+group-0-9-spec =
+    tie.close
+    (tie.spec (search needs)
+    (λ c. arm _ (c .before .pre .0) refl (c .if1 .taken) (c .before .pre .1) refl) returns-2 returns-3 returns-4
+    returns-5)

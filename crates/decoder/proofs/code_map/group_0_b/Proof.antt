@@ -10,11 +10,11 @@ use Rattle.decoder.proofs.code_map.group_0_b.Statement.{statement}
 use Rattle.decoder.proofs.code_map.group_0_b.Tie as tie
 
 abbrev keys : List ℕ
-keys = 2 ∷ 1 ∷ 0 ∷ []
+keys = 0x2 ∷ 0x1 ∷ 0x0 ∷ []
 
 returns : tie.Need-returns
 unfolding table
-returns c = undefined (is 0) (none-of (0 ∷ [])) anything (is 11) _ (known (c .before .pre .0)) (no-key (0 ∷ []) _ (tt, c .if1 .taken)) tt (known (c .before .pre .1)) tt
+returns c = undefined (is 0x0) (none-of (0x0 ∷ [])) anything (is 0xb) _ (known (c .before .pre .0)) (no-key (0x0 ∷ []) _ (tt, c .if1 .taken)) tt (known (c .before .pre .1)) tt
 
 returns-2 : tie.Need-returns-2
 unfolding among table
@@ -30,7 +30,7 @@ returns-4 c = arm _ (c .before .before .pre .0) (c .before .if1 .left) (c .match
 
 returns-5 : tie.Need-returns-5
 unfolding table
-returns-5 c = undefined (is 0) anything (none-of keys) (is 11) _ (known (c .before .before .pre .0)) tt (no-key keys _ (c .match .rest)) (known (c .before .before .pre .1)) tt
+returns-5 c = undefined (is 0x0) anything (none-of keys) (is 0xb) _ (known (c .before .before .pre .0)) tt (no-key keys _ (c .match .rest)) (known (c .before .before .pre .1)) tt
 
 pub group-0-b-spec : {M : Type 1} → statement M
 group-0-b-spec = tie.close (tie.spec returns returns-2 returns-3 returns-4 returns-5)

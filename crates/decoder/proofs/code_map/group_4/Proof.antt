@@ -9,38 +9,14 @@ use Rattle.decoder.proofs.code_map.group_4.Statement.{statement}
 use Rattle.decoder.proofs.code_map.group_4.Tie as tie
 
 abbrev keys : List ℕ
-keys = 2 ∷ 1 ∷ 0 ∷ []
-
-group-4-0-requires : tie.Need-group-4-0-requires
-group-4-0-requires c κs = search needs
-
-group-4-1-requires : tie.Need-group-4-1-requires
-group-4-1-requires c κs = search needs
-
-group-4-2-requires : tie.Need-group-4-2-requires
-group-4-2-requires c κs = search needs
-
-returns : tie.Need-returns
-returns c = search needs
-
-returns-2 : tie.Need-returns-2
-returns-2 c = search needs
-
-returns-3 : tie.Need-returns-3
-returns-3 c = search needs
+keys = 0x2 ∷ 0x1 ∷ 0x0 ∷ []
 
 returns-4 : tie.Need-returns-4
 unfolding table
-returns-4 c = undefined (is 4) anything (none-of keys) (none-of (15 ∷ [])) _ (known (c .before .pre .0)) tt (no-key keys _ (c .match .rest)) (no-key (15 ∷ []) _ (tt, c .before .pre .1)) tt
+returns-4 c = undefined (is 0x4) anything (none-of keys) (none-of (0xf ∷ [])) _ (known (c .before .pre .0)) tt (no-key keys _ (c .match .rest)) (no-key (0xf ∷ []) _ (tt, c .before .pre .1)) tt
 
 pub group-4-spec : {M : Type 1} → statement M
 group-4-spec =
     tie.close
-    (tie.spec
-    group-4-0-requires
-    group-4-1-requires
-    group-4-2-requires
-    returns
-    returns-2
-    returns-3
+    (tie.spec (search needs) (search needs) (search needs) (λ c. search needs) (λ c. search needs) (λ c. search needs)
     returns-4)
