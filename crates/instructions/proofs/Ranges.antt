@@ -152,8 +152,8 @@ module _ {c : Control} (r : ControlInRange c) where
   stored-control Pr = r .pr
 
 extended-below : (size : Size) (v : ℕ) → v < 256 ^ bytes size → extended size v < 2 ^ 32
-extended-below Byte v below = low-bits-below 32 (signedByte (v % 2 ^ 8))
-extended-below Word v below = low-bits-below 32 (signedWord (v % 2 ^ 16))
+extended-below Byte v below = low-bits-below 32 (signedByte v)
+extended-below Word v below = low-bits-below 32 (signedWord v)
 extended-below Long v below = below
 
 onward : {s : State} → StateInRange s → EffectInRange (next s)
@@ -241,8 +241,8 @@ executes (TwoRegisters Add m n) s fits r = into r n (low32-below _)
 executes (TwoRegisters Addc m n) s fits r = intoT r n _ (low32-below _)
 executes (TwoRegisters Addv m n) s fits r = intoT r n _ (low32-below _)
 executes (TwoRegisters And m n) s fits r = into r n (and-below (reg m s) (reg-below r n))
-executes (TwoRegisters ExtsB m n) s fits r = into r n (low-bits-below 32 (signedByte (reg m s % 2 ^ 8)))
-executes (TwoRegisters ExtsW m n) s fits r = into r n (low-bits-below 32 (signedWord (reg m s % 2 ^ 16)))
+executes (TwoRegisters ExtsB m n) s fits r = into r n (low-bits-below 32 (signedByte (reg m s)))
+executes (TwoRegisters ExtsW m n) s fits r = into r n (low-bits-below 32 (signedWord (reg m s)))
 executes (TwoRegisters ExtuB m n) s fits r = into r n (omega arith)
 executes (TwoRegisters ExtuW m n) s fits r = into r n (omega arith)
 executes (TwoRegisters Mov m n) s fits r = into r n (reg-below r m)
@@ -271,7 +271,7 @@ executes (Multiply DmulsL m n) s fits r = multiplies r (dmulsL-below (reg m s) (
 executes (Multiply DmuluL m n) s fits r = multiplies r (dmuluL-below (reg-below r m) (reg-below r n))
 executes (Multiply MulL m n) s fits r = multiplies-low r (low32-below _)
 executes (Multiply MulsW m n) s fits r =
-    multiplies-low r (low-bits-below 32 (signedWord (reg n s % 2 ^ 16) *ℤ signedWord (reg m s % 2 ^ 16)))
+    multiplies-low r (low-bits-below 32 (signedWord (reg n s) *ℤ signedWord (reg m s)))
 executes (Multiply MuluW m n) s fits r = multiplies-low r (muluW-below (reg m s) (reg n s))
 executes (MultiplyAdd MacL m n) s fits r =
     loads r 4 _ (λ b _. loads r 4 _ (λ a _. multiplies (stepped (stepped r 4 n) 4 m) (macL-below (mac s) (sBit s) a b)))
@@ -283,7 +283,7 @@ executes (MultiplyAdd MacW m n) s fits r =
     multiplies (stepped (stepped r 2 n) 2 m)
     (macW-below (record { mach = r .control .mach; macl = r .control .macl }) (sBit s) a b)))
 executes (Immediate AddImm i n) s fits r = into r n (low32-below _)
-executes (Immediate MovImm i n) s fits r = into r n (low-bits-below 32 (signedByte (i % 2 ^ 8)))
+executes (Immediate MovImm i n) s fits r = into r n (low-bits-below 32 (signedByte i))
 executes (ImmediateR0 AndImm i) s fits r = into r 0 (and-below i (reg-below r 0))
 executes (ImmediateR0 CmpEqImm i) s fits r = onward (t-changed r _)
 executes (ImmediateR0 OrImm i) s fits r = into r 0 (or-lt 32 (reg 0 s) i (reg-below r 0) (omega (arith, ltb→lt i 256 fits)))
