@@ -34,9 +34,9 @@ cmpPl n = truth (ltZ (pos 0) (signedLong n))
 abbrev pub cmpPz : ℕ → ℕ
 cmpPz n = truth (leZ (pos 0) (signedLong n))
 
--- The two registers have the same byte in place k, counted from the lowest.
+-- The two registers have the same byte from bit `lowest` up: bits 31 to 24 are the byte from bit 24 up.
 abbrev pub sameByte : ℕ → ℕ → ℕ → Bool
-sameByte k m n = eqb (n / 2 ^ k % 256) (m / 2 ^ k % 256)
+sameByte lowest m n = eqb (n / 2 ^ lowest % 2 ^ 8) (m / 2 ^ lowest % 2 ^ 8)
 
 -- CMP/STR: some byte of Rn equals the byte of Rm in the same place
 abbrev pub cmpStr : ℕ → ℕ → ℕ

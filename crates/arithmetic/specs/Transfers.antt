@@ -2,13 +2,13 @@
 use Prim.Native.Nat.{ℕ, _+_, _*_, _/_, _%_, _^_}
 use Rattle.numbers.specs.Numbers.{signedByte, signedWord, lowLong}
 
--- 6.23 EXTS.B; also what extends an 8-bit immediate
+-- 6.23 EXTS.B: the low byte, sign-extended; also what extends an 8-bit immediate
 abbrev pub extsB : ℕ → ℕ
-extsB m = lowLong (signedByte (m % 2 ^ 8))
+extsB m = lowLong (signedByte m)
 
--- 6.23 EXTS.W
+-- 6.23 EXTS.W: the low word, sign-extended
 abbrev pub extsW : ℕ → ℕ
-extsW m = lowLong (signedWord (m % 2 ^ 16))
+extsW m = lowLong (signedWord m)
 
 -- 6.24 EXTU.B
 abbrev pub extuB : ℕ → ℕ

@@ -1,4 +1,4 @@
-// Addresses counted from an instruction's own address: document 01, "Branch addresses" and "PC-relative data".
+// Addresses counted from PC, which is the instruction's own address and 4: document 01, "Branch addresses" and "PC-relative data".
 use std::num::wrapping_add_u32;
 ghost use mathlib.Core.Path.{_≡_};
 ghost use Prim.Native.Nat.{_^_};
@@ -14,16 +14,21 @@ pub fn following(a: u32) -> u32
 pub fn branch(a: u32, d: u8) -> u32
     ensures { λ r. ⌜ r ≡ Addresses.branch (2 ^ 7) (Addresses.following a) d ⌝ }
 {
-    let twice = numbers::signed(d as u32, 128) * 2;
-    wrapping_add_u32(following(a), numbers::low_long(twice))
+    displaced(following(a), d as u32, 0x80)
 }
 
 // A branch by a 12-bit displacement, of which a number has no bit above the twelve.
 pub fn long_branch(a: u32, d: u16) -> u32
     ensures { λ r. ⌜ r ≡ Addresses.branch (2 ^ 11) (Addresses.following a) d ⌝ }
 {
-    let twice = numbers::signed(d as u32, 2048) * 2;
-    wrapping_add_u32(following(a), numbers::low_long(twice))
+    displaced(following(a), d as u32, 0x800)
+}
+
+fn displaced(pc: u32, d: u32, half: u32) -> u32
+    ensures { λ r. ⌜ r ≡ Addresses.branch half pc d ⌝ }
+{
+    let twice = numbers::signed(d, half) * 2;
+    wrapping_add_u32(pc, numbers::low_long(twice))
 }
 
 pub fn far(a: u32, m: u32) -> u32

@@ -1,8 +1,7 @@
 // Comparisons, each giving T: document 000, section 6.16.
+use numbers::HALF;
 ghost use mathlib.Core.Path.{_≡_};
 ghost use Rattle.arithmetic.specs.Compares as Compares;
-
-const HALF: u32 = 2147483648;
 
 pub fn cmp_eq(m: u32, n: u32) -> u32
     ensures { λ r. ⌜ r ≡ Compares.cmpEq m n ⌝ }
@@ -49,14 +48,14 @@ pub fn cmp_pz(n: u32) -> u32
 pub fn cmp_str(m: u32, n: u32) -> u32
     ensures { λ r. ⌜ r ≡ Compares.cmpStr m n ⌝ }
 {
-    if n / 16777216 % 256 == m / 16777216 % 256 {
+    if n / 0x100_0000 % 0x100 == m / 0x100_0000 % 0x100 {
         return 1;
     }
-    if n / 65536 % 256 == m / 65536 % 256 {
+    if n / 0x1_0000 % 0x100 == m / 0x1_0000 % 0x100 {
         return 1;
     }
-    if n / 256 % 256 == m / 256 % 256 {
+    if n / 0x100 % 0x100 == m / 0x100 % 0x100 {
         return 1;
     }
-    (n % 256 == m % 256) as u32
+    (n % 0x100 == m % 0x100) as u32
 }

@@ -12,7 +12,7 @@ pub fn and(m: u32, n: u32) -> u32
 pub fn not(m: u32) -> u32
     ensures { λ r. ⌜ r ≡ Logic.complement m ⌝ }
 {
-    4294967295 - m
+    0xffff_ffff - m
 }
 
 pub fn or(m: u32, n: u32) -> u32

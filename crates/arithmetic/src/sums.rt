@@ -1,13 +1,11 @@
 // Sums and differences of registers: document 000, sections 6.2 to 6.4, 6.22, 6.41, 6.42 and 6.62 to 6.64.
+use numbers::HALF;
+use numbers::REACH;
 use numbers::WithT;
 use std::num::wrapping_add_u32;
 use std::num::wrapping_sub_u32;
 ghost use mathlib.Core.Path.{_≡_};
 ghost use Rattle.arithmetic.specs.Sums as Sums;
-
-const REACH: u64 = 4294967296;
-
-const HALF: u32 = 2147483648;
 
 pub fn add(m: u32, n: u32) -> u32
     ensures { λ r. ⌜ r ≡ Sums.add m n ⌝ }

@@ -4,6 +4,7 @@ use mathlib.Core.Bool.{Bool, not, cond}
 use Prim.Native.Nat.{ℕ, _+_, _*_, _-_, _/_, _^_}
 use lib.Dec.{eqb, leb, ltb}
 use Rattle.numbers.specs.Numbers.{truth, low32}
+use Rattle.arithmetic.specs.Sums.{add, sub}
 use Rattle.divide.specs.declared.Bits.{Bits}
 use Rattle.divide.specs.declared.Divided.{Divided}
 
@@ -15,29 +16,23 @@ div0s m n = record { m = m / 2 ^ 31; q = n / 2 ^ 31; t = truth (not (eqb (m / 2 
 abbrev pub div0u : Bits
 div0u = record { m = 0; q = 0; t = 0 }
 
--- "Rn is doubled and T added"
-abbrev pub doubled : ℕ → ℕ → ℕ
-doubled n t = low32 (n * 2 + t)
-
--- "Rm is subtracted if old Q = M, otherwise added, modulo 2^32"
-abbrev pub partialRemainder : Bool → ℕ → ℕ → ℕ
-partialRemainder subtract d m = cond subtract (low32 (d + 2 ^ 32 - m)) (low32 (d + m))
-
--- "a borrow or carry"
-abbrev pub borrowOrCarry : Bool → ℕ → ℕ → Bool
-borrowOrCarry subtract d m = cond subtract (ltb d m) (leb (2 ^ 32) (d + m))
-
 abbrev pub flipped : Bool → ℕ → ℕ
 flipped b q = cond b (1 - q) q
 
--- "Q becomes Rn's top bit", "flipped if M is 1 and flipped again on a borrow or carry"
-abbrev pub newQ : ℕ → ℕ → Bool → ℕ
-newQ n mBit changed = flipped changed (flipped (eqb mBit 1) (n / 2 ^ 31))
-
--- 6.19 DIV1, from Rm, Rn, M, Q and T: "T is 1 exactly if Q = M"
-abbrev pub div1With : ℕ → ℕ → ℕ → Divided
-div1With v q mBit = record { value = v; q = q; t = truth (eqb q mBit) }
-
+-- 6.19 DIV1, from Rm, Rn, M, Q and T, sentence by sentence.
 abbrev pub div1 : ℕ → ℕ → ℕ → ℕ → ℕ → Divided
 div1 m n mBit q t =
-    div1With (partialRemainder (eqb q mBit) (doubled n t) m) (newQ n mBit (borrowOrCarry (eqb q mBit) (doubled n t) m)) mBit
+    -- "the old Q is kept"
+    let oldQ = q in
+    -- "Q becomes Rn's top bit"
+    let topBit = n / 2 ^ 31 in
+    -- "Rn is doubled and T added"
+    let doubled = low32 (n * 2 + t) in
+    -- "Rm is subtracted if old Q = M, otherwise added, modulo 2^32"
+    let subtracts = eqb oldQ mBit in
+    let value = cond subtracts (sub m doubled) (add m doubled) in
+    -- "Q is flipped if M is 1 and flipped again on a borrow or carry"
+    let borrowOrCarry = cond subtracts (ltb doubled m) (leb (2 ^ 32) (doubled + m)) in
+    let newQ = flipped borrowOrCarry (flipped (eqb mBit 1) topBit) in
+    -- "T is 1 exactly if Q = M"
+    record { value = value; q = newQ; t = truth (eqb newQ mBit) }

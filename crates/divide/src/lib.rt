@@ -1,12 +1,14 @@
 // The divide steps: document 000, sections 6.17 to 6.19, with document 01, "Instructions with corners", for DIV1.
+use numbers::HALF;
+use numbers::REACH;
 use std::num::wrapping_add_u32;
 use std::num::wrapping_sub_u32;
 ghost use mathlib.Core.Path.{_≡_};
+ghost use mathlib.Core.Bool.{cond};
+ghost use Prim.Native.Nat.{_+_, _^_};
+ghost use lib.Dec.{leb, ltb};
+ghost use Rattle.arithmetic.specs.Sums.{add, sub};
 ghost use Rattle.divide.specs.Divide as Divide;
-
-const REACH: u64 = 4294967296;
-
-const HALF: u32 = 2147483648;
 
 // M, Q and T.
 pub struct Bits {
@@ -58,7 +60,8 @@ struct Partial {
 }
 
 fn partial_remainder(subtract: bool, doubled: u32, m: u32) -> Partial
-    ensures { λ r. ⌜ (r .value ≡ Divide.partialRemainder subtract doubled m) × (r .changed ≡ Divide.borrowOrCarry subtract doubled m) ⌝ }
+    ensures value { λ r. ⌜ r .value ≡ cond subtract (sub m doubled) (add m doubled) ⌝ }
+    ensures changed { λ r. ⌜ r .changed ≡ cond subtract (ltb doubled m) (leb (2 ^ 32) (doubled + m)) ⌝ }
 {
     if subtract {
         return Partial {

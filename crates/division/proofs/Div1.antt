@@ -5,9 +5,10 @@ use mathlib.Core.Bool.{Bool, true, false}
 use Prim.Native.Nat.{ℕ, _+_, _*_, _-_, _/_, _%_, _^_, _≤_, _<_}
 use native.Mathlib.Omega.{arith}
 use borrow.Author.Tests.{ltb-true, ltb-false, lt-ltb, le-leb, lt-leb}
-use lib.Dec.{ltb, leb}
+use lib.Dec.{eqb, ltb, leb}
+use Rattle.numbers.specs.Numbers.{truth}
 use Rattle.divide.specs.declared.Divided.{Divided}
-use Rattle.divide.specs.Divide.{div1, div1With, flipped}
+use Rattle.divide.specs.Divide.{div1, flipped}
 
 -- How a remainder r of a division by d stands in a register's value v and in Q: as it is, or less the divisor modulo 2^32.
 pub data Stands (d r v q : ℕ) : Type 0 where
@@ -19,16 +20,20 @@ pub data Answers (d n : ℕ) (x : Divided) : Type 0 where
   fits : d ≤ n → x .t ≡ 1 → Stands d (n - d) (x .value) (x .q) → Answers d n x
   fits-not : n < d → x .t ≡ 0 → Stands d n (x .value) (x .q) → Answers d n x
 
+-- What DIV1 leaves with M = 0: Rn and Q, and T that tells whether Q is 0.
+abbrev pub leaves : ℕ → ℕ → Divided
+leaves v q = record { value = v; q = q; t = truth (eqb q 0) }
+
 -- DIV1 from the doubled value e, the top bit that left, and the borrow or carry.
 subtracting :
     (d v b e top : ℕ) (borrow : Bool) → (v * 2 + b) % 2 ^ 32 ≡ e → v / 2 ^ 31 ≡ top → ltb e d ≡ borrow →
-    div1 d v 0 0 b ≡ div1With ((e + 2 ^ 32 - d) % 2 ^ 32) (flipped borrow top) 0
-subtracting d v b e top borrow doubles leaves borrows = rw (doubles, leaves, borrows)
+    div1 d v 0 0 b ≡ leaves ((e + 2 ^ 32 - d) % 2 ^ 32) (flipped borrow top)
+subtracting d v b e top borrow doubles top-bit borrows = rw (doubles, top-bit, borrows)
 
 adding :
     (d v b e top : ℕ) (carry : Bool) → (v * 2 + b) % 2 ^ 32 ≡ e → v / 2 ^ 31 ≡ top → leb (2 ^ 32) (e + d) ≡ carry →
-    div1 d v 0 1 b ≡ div1With ((e + d) % 2 ^ 32) (flipped carry top) 0
-adding d v b e top carry doubles leaves carries = rw (doubles, leaves, carries)
+    div1 d v 0 1 b ≡ leaves ((e + d) % 2 ^ 32) (flipped carry top)
+adding d v b e top carry doubles top-bit carries = rw (doubles, top-bit, carries)
 
 module _ (d r b : ℕ) (small : d < 2 ^ 32) (below : r < d) (bit : b < 2) where
   from-plain : Answers d (r + r + b) (div1 d r 0 0 b)

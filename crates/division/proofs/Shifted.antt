@@ -1,21 +1,22 @@
 -- DIV1 steps where the divisor is 0: each only shifts, and the answers make the complement of what is shifted out. By induction.
 -- Assumes nothing; no machine and no number of steps is named.
 use mathlib.Core.Path.{_≡_, refl, sym, _∙_, ap, subst}
-use mathlib.Core.Bool.{Bool, true, false}
+use mathlib.Core.Bool.{Bool, true, false, cond}
 use Prim.Native.Nat.{ℕ, _+_, _*_, _-_, _/_, _%_, _^_, _≤_, _<_}
 use native.Mathlib.Nat.{mul-add, add-mul, mul-comm, mul-le-mul-right}
 use native.Mathlib.Omega.{arith}
 use borrow.Author.Tests.{ltb-true, ltb-false, le-ltb, lt-leb}
-use lib.Dec.{ltb, eqb}
+use lib.Dec.{eqb, leb, ltb}
 use Rattle.numbers.specs.Numbers.{truth, low32}
 use Rattle.divide.specs.declared.Divided.{Divided}
-use Rattle.divide.specs.Divide.{div1, div1With, partialRemainder, borrowOrCarry, flipped}
+use Rattle.divide.specs.Divide.{div1, flipped}
+use Rattle.division.proofs.Div1.{leaves}
 use Rattle.division.proofs.Steps.{Steps, none, another, in-range}
 
 -- Nothing is borrowed from subtracting 0, and nothing carried from adding it.
 only-shifted :
     (subtract : Bool) (e top : ℕ) → e < 2 ^ 32 →
-    div1With (partialRemainder subtract e 0) (flipped (borrowOrCarry subtract e 0) top) 0 ≡ div1With e top 0
+    leaves (cond subtract (low32 (e + 2 ^ 32 - 0)) (low32 (e + 0))) (flipped (cond subtract (ltb e 0) (leb (2 ^ 32) (e + 0))) top) ≡ leaves e top
 only-shifted true e top small =
     let same : (e + 2 ^ 32 - 0) % 2 ^ 32 ≡ e = omega arith in
     rw (same, le-ltb e 0 (omega arith))
@@ -23,7 +24,7 @@ only-shifted false e top small =
     let same : (e + 0) % 2 ^ 32 ≡ e = omega arith in
     rw (same, lt-leb (2 ^ 32) (e + 0) (omega arith))
 
-only-shifts : (v q b : ℕ) → div1 0 v 0 q b ≡ div1With (low32 (v * 2 + b)) (v / 2 ^ 31) 0
+only-shifts : (v q b : ℕ) → div1 0 v 0 q b ≡ leaves (low32 (v * 2 + b)) (v / 2 ^ 31)
 only-shifts v q b = only-shifted (eqb q 0) (low32 (v * 2 + b)) (v / 2 ^ 31) (omega arith)
 
 -- w is 2 to the number of steps still possible with 32 bits. x has given out its upper bits, the last of them into Q, and the answers are

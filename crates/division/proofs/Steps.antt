@@ -2,11 +2,11 @@
 -- Assumes nothing; no machine and no number of steps is named.
 use mathlib.Core.Path.{_≡_}
 use mathlib.Core.Bool.{Bool, true, false, cond}
-use Prim.Native.Nat.{ℕ, _+_, _-_, _/_, _%_, _^_, _≤_, _<_}
+use Prim.Native.Nat.{ℕ, _+_, _*_, _/_, _%_, _^_, _≤_, _<_}
 use native.Mathlib.Omega.{arith}
-use lib.Dec.{eqb}
+use lib.Dec.{eqb, leb, ltb}
 use Rattle.numbers.specs.Numbers.{truth, low32}
-use Rattle.divide.specs.Divide.{div1, doubled, borrowOrCarry, flipped}
+use Rattle.divide.specs.Divide.{div1, flipped}
 
 -- Steps d x c bits answers v q: x stood in Rn, with Q = 0, and d in Rm. After the steps c is 2 to their number, the bits that T brought
 -- make the number bits, the answers that T took the number answers, and v and q are Rn and Q.
@@ -24,9 +24,9 @@ flipped-bit : (a : Bool) (top : ℕ) → top < 2 → flipped a top < 2
 flipped-bit true top bit = omega arith
 flipped-bit false top bit = bit
 
-word-either : (a : Bool) (x y : ℕ) → cond a (low32 x) (low32 y) < 2 ^ 32
-word-either true x y = omega arith
-word-either false x y = omega arith
+either-long : (a : Bool) (x y : ℕ) → cond a (low32 x) (low32 y) < 2 ^ 32
+either-long true x y = omega arith
+either-long false x y = omega arith
 
 -- What a step leaves is in range, whatever the divisor.
 pub record InRange (c bits answers v q : ℕ) : Type 0 where
@@ -40,10 +40,12 @@ module _ (d v q b : ℕ) where
   div1-t-bit = truth-bit (eqb (div1 d v 0 q b .q) 0)
 
   div1-long : div1 d v 0 q b .value < 2 ^ 32
-  div1-long = word-either (eqb q 0) (doubled v b + 2 ^ 32 - d) (doubled v b + d)
+  div1-long = either-long (eqb q 0) _ _
 
   pub div1-q-bit : v < 2 ^ 32 → div1 d v 0 q b .q < 2
-  div1-q-bit small = flipped-bit (borrowOrCarry (eqb q 0) (doubled v b) d) (v / 2 ^ 31) (omega arith)
+  div1-q-bit small =
+      let doubled = low32 (v * 2 + b) in
+      flipped-bit (cond (eqb q 0) (ltb doubled d) (leb (2 ^ 32) (doubled + d))) (v / 2 ^ 31) (omega arith)
 
 module _ {d x : ℕ} (small : x < 2 ^ 32) where
   pub in-range : {c bits answers v q : ℕ} → Steps d x c bits answers v q → InRange c bits answers v q

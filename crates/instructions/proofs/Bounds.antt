@@ -7,16 +7,16 @@ use native.Mathlib.Nat.{div-le-self, lt-of-le-of-lt, mod-lt}
 use native.Mathlib.Omega.{arith}
 use lib.Bits.{bitAnd, and-le-l}
 use lib.Dec.{eqb}
-use lib.IntN.{ℤ, pos, negsuc, _+ℤ_, _*ℤ_}
+use lib.IntN.{ℤ, pos, negsuc, negℤ, _+ℤ_}
 use lib.Pow.{pow-pos}
-use Rattle.numbers.specs.Numbers.{low32, lowBits, signed, signedLong, signedWord}
+use Rattle.numbers.specs.Numbers.{low32, lowBits, signed, signedLong}
 use Rattle.arithmetic.specs.Logic.{complement}
 use Rattle.arithmetic.specs.Transfers.{swapB, xtrct}
 use Rattle.shifts.specs.Shifts.{rotl, rotr}
-use Rattle.multiply.specs.Multiply.{split, joined, held, dmulsL, dmuluL, muluW, macL, macLHeld, macW, macWHeld, summed}
+use Rattle.multiply.specs.Multiply.{split, joined, held, productLong, productWord, dmulsL, dmuluL, muluW, macL, macLHeld, macW, macWHeld, summed}
 use Rattle.multiply.specs.declared.Mac.{Mac}
 use Rattle.multiply.proofs.Products.{product-below}
-use Rattle.divide.specs.Divide.{div1, doubled, partialRemainder}
+use Rattle.divide.specs.Divide.{div1}
 
 pub low32-below : (x : ℕ) → low32 x < 2 ^ 32
 low32-below x = omega arith
@@ -51,11 +51,11 @@ pub muluW-below : (m n : ℕ) → muluW m n < 2 ^ 32
 muluW-below m n = product-below 16 (mod-lt n (pow-pos 16)) (mod-lt m (pow-pos 16))
 
 pub div1-below : (m n mBit q t : ℕ) → div1 m n mBit q t .value < 2 ^ 32
-div1-below m n mBit q t = either (eqb q mBit)
+div1-below m n mBit q t = either (eqb q mBit) _ _
   where
-    either : (subtract : Bool) → partialRemainder subtract (doubled n t) m < 2 ^ 32
-    either true = low32-below (doubled n t + 2 ^ 32 - m)
-    either false = low32-below (doubled n t + m)
+    either : (subtract : Bool) (x y : ℕ) → cond subtract (low32 x) (low32 y) < 2 ^ 32
+    either true x y = low32-below x
+    either false x y = low32-below y
 
 -- MACH and MACL.
 pub record MacBelow (a : Mac) : Type 0 where
@@ -70,7 +70,7 @@ either true a b here there = here
 either false a b here there = there
 
 pub dmulsL-below : (m n : ℕ) → MacBelow (dmulsL m n)
-dmulsL-below m n = split-below (low-bits-below 64 (signedLong n *ℤ signedLong m))
+dmulsL-below m n = split-below (low-bits-below 64 (productLong m n))
 
 pub dmuluL-below : {m n : ℕ} → m < 2 ^ 32 → n < 2 ^ 32 → MacBelow (dmuluL m n)
 dmuluL-below f g = split-below (product-below 32 g f)
@@ -79,23 +79,23 @@ summed-below : (a : Mac) (product : ℤ) → MacBelow (summed a product)
 summed-below a product = split-below (mod-lt _ (pow-pos 64))
 
 pub macL-below : (a : Mac) (s m n : ℕ) → MacBelow (macL a s m n)
-macL-below a s m n = go (signedLong n *ℤ signedLong m)
+macL-below a s m n = go (productLong m n)
   where
     go : (product : ℤ) → MacBelow (cond (eqb s 1) (macLHeld a product) (summed a product))
     go product =
         either (eqb s 1) (macLHeld a product) (summed a product)
         (split-below
-        (low-bits-below 64 (held (negsuc (2 ^ 47 - 1)) (pos (2 ^ 47 - 1)) (signed (2 ^ 47) (joined a % 2 ^ 48) +ℤ product))))
+        (low-bits-below 64 (held (negℤ (pos (2 ^ 47))) (pos (2 ^ 47 - 1)) (signed (2 ^ 47) (joined a % 2 ^ 48) +ℤ product))))
         (summed-below a product)
 
 pub macW-below : {a : Mac} → MacBelow a → (s m n : ℕ) → MacBelow (macW a s m n)
-macW-below {a} below s m n = go (signedWord (n % 2 ^ 16) *ℤ signedWord (m % 2 ^ 16))
+macW-below {a} below s m n = go (productWord m n)
   where
     go : (product : ℤ) → MacBelow (cond (eqb s 1) (macWHeld a product) (summed a product))
     go product =
         either (eqb s 1) (macWHeld a product) (summed a product)
         (record {
           mach = below .mach;
-          macl = low-bits-below 32 (held (negsuc (2 ^ 31 - 1)) (pos (2 ^ 31 - 1)) (signedLong (a .macl) +ℤ product));
+          macl = low-bits-below 32 (held (negℤ (pos (2 ^ 31))) (pos (2 ^ 31 - 1)) (signedLong (a .macl) +ℤ product));
         })
         (summed-below a product)

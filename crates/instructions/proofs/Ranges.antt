@@ -153,8 +153,8 @@ module _ {c : Control} (r : ControlInRange c) where
   stored-control Pr = r .pr
 
 extended-below : (size : Size) (v : ℕ) → v < 256 ^ bytes size → extended size v < 2 ^ 32
-extended-below Byte v below = low-bits-below 32 (signedByte (v % 2 ^ 8))
-extended-below Word v below = low-bits-below 32 (signedWord (v % 2 ^ 16))
+extended-below Byte v below = low-bits-below 32 (signedByte v)
+extended-below Word v below = low-bits-below 32 (signedWord v)
 extended-below Long v below = below
 
 onward : {s : State} → StateInRange s → EffectInRange (next s)
@@ -246,8 +246,8 @@ executes (TwoRegisters Add m n) pc s fits below r = into r n (low32-below _)
 executes (TwoRegisters Addc m n) pc s fits below r = intoT r n _ (low32-below _)
 executes (TwoRegisters Addv m n) pc s fits below r = intoT r n _ (low32-below _)
 executes (TwoRegisters And m n) pc s fits below r = into r n (and-below (reg m s) (reg-below r n))
-executes (TwoRegisters ExtsB m n) pc s fits below r = into r n (low-bits-below 32 (signedByte (reg m s % 2 ^ 8)))
-executes (TwoRegisters ExtsW m n) pc s fits below r = into r n (low-bits-below 32 (signedWord (reg m s % 2 ^ 16)))
+executes (TwoRegisters ExtsB m n) pc s fits below r = into r n (low-bits-below 32 (signedByte (reg m s)))
+executes (TwoRegisters ExtsW m n) pc s fits below r = into r n (low-bits-below 32 (signedWord (reg m s)))
 executes (TwoRegisters ExtuB m n) pc s fits below r = into r n (omega arith)
 executes (TwoRegisters ExtuW m n) pc s fits below r = into r n (omega arith)
 executes (TwoRegisters Mov m n) pc s fits below r = into r n (reg-below r m)
@@ -276,7 +276,7 @@ executes (Multiply DmulsL m n) pc s fits below r = multiplies r (dmulsL-below (r
 executes (Multiply DmuluL m n) pc s fits below r = multiplies r (dmuluL-below (reg-below r m) (reg-below r n))
 executes (Multiply MulL m n) pc s fits below r = multiplies-low r (low32-below _)
 executes (Multiply MulsW m n) pc s fits below r =
-    multiplies-low r (low-bits-below 32 (signedWord (reg n s % 2 ^ 16) *ℤ signedWord (reg m s % 2 ^ 16)))
+    multiplies-low r (low-bits-below 32 (signedWord (reg n s) *ℤ signedWord (reg m s)))
 executes (Multiply MuluW m n) pc s fits below r = multiplies-low r (muluW-below (reg m s) (reg n s))
 executes (MultiplyAdd MacL m n) pc s fits below r =
     loads r 4 _ (λ b _. loads r 4 _ (λ a _. multiplies (stepped (stepped r 4 n) 4 m) (macL-below (mac s) (sBit s) a b)))
@@ -288,7 +288,7 @@ executes (MultiplyAdd MacW m n) pc s fits below r =
     multiplies (stepped (stepped r 2 n) 2 m)
     (macW-below (record { mach = r .control .mach; macl = r .control .macl }) (sBit s) a b)))
 executes (Immediate AddImm i n) pc s fits below r = into r n (low32-below _)
-executes (Immediate MovImm i n) pc s fits below r = into r n (low-bits-below 32 (signedByte (i % 2 ^ 8)))
+executes (Immediate MovImm i n) pc s fits below r = into r n (low-bits-below 32 (signedByte i))
 executes (ImmediateR0 AndImm i) pc s fits below r = into r 0 (and-below i (reg-below r 0))
 executes (ImmediateR0 CmpEqImm i) pc s fits below r = onward (t-changed r _)
 executes (ImmediateR0 OrImm i) pc s fits below r = into r 0 (or-lt 32 (reg 0 s) i (reg-below r 0) (omega (arith, ltb→lt i 256 fits)))

@@ -7,7 +7,8 @@ use native.Mathlib.Nat.{le-of-lt, lt-of-le-of-lt, mul-le-mul-left, mul-lt-mul-of
 use lib.Pow.{pow-pos, pow-add}
 use lib.IntN.{ℤ, _+ℤ_, _*ℤ_}
 use lib.Signed.{mag}
-use Rattle.numbers.specs.Numbers.{signed, signedWord, signedLong}
+use Rattle.numbers.specs.Numbers.{signed}
+use Rattle.multiply.specs.Multiply.{productLong, productWord}
 use Rattle.numbers.proofs.Integers.{mag-plus, mag-signed, mag-times, abs-signed}
 
 -- The product of two numbers of k bits has at most k + k.
@@ -17,13 +18,13 @@ product-below k {a} {b} ha hb =
     (lt-of-le-of-lt (mul-le-mul-left a (le-of-lt hb)) (mul-lt-mul-of-pos-right ha (pow-pos k)))
 
 -- The product of two signed readings is at most the square of half their width.
-pub signed-product : (half x y : ℕ) → x < half + half → y < half + half → mag (signed half x *ℤ signed half y) ≤ half * half
+signed-product : (half x y : ℕ) → x < half + half → y < half + half → mag (signed half x *ℤ signed half y) ≤ half * half
 signed-product half x y h g = mag-times (signed half x) (signed half y) half half (abs-signed half x h) (abs-signed half y g)
 
-pub longs-fit : (n m : ℕ) → n < 2 ^ 32 → m < 2 ^ 32 → mag (signedLong n *ℤ signedLong m) < 2 ^ 62 + 1
+pub longs-fit : (n m : ℕ) → n < 2 ^ 32 → m < 2 ^ 32 → mag (productLong m n) < 2 ^ 62 + 1
 longs-fit n m f g = omega (arith, signed-product (2 ^ 31) n m f g)
 
-pub words-fit : (n m : ℕ) → mag (signedWord (n % 2 ^ 16) *ℤ signedWord (m % 2 ^ 16)) < 2 ^ 62 + 1
+pub words-fit : (n m : ℕ) → mag (productWord m n) < 2 ^ 62 + 1
 words-fit n m = omega (arith, signed-product (2 ^ 15) (n % 2 ^ 16) (m % 2 ^ 16) (omega arith) (omega arith))
 
 -- A product added to a signed reading of at most 48 bits.

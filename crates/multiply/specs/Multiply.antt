@@ -1,9 +1,9 @@
 -- Multiplications, and multiplications that add to MACH and MACL: document 000, sections 6.20, 6.21, 6.29, 6.31 and 6.38 to 6.40,
--- with document 01, "Instructions with corners", for the saturation. m and n are the two operands, h and l MACH and MACL, s is S.
+-- with document 01, "Instructions with corners", for the saturation. m and n are the two operands, a is MACH and MACL, s is S.
 use mathlib.Core.Bool.{Bool, cond}
 use Prim.Native.Nat.{ℕ, _+_, _*_, _-_, _/_, _%_, _^_}
 use lib.Dec.{eqb}
-use lib.IntN.{ℤ, pos, negsuc, _+ℤ_, _*ℤ_}
+use lib.IntN.{ℤ, pos, negℤ, _+ℤ_, _*ℤ_}
 use lib.Signed.{ltZ}
 use Rattle.numbers.specs.Numbers.{low32, signed, signedWord, signedLong, lowLong, lowQuad}
 use Rattle.multiply.specs.declared.Mac.{Mac}
@@ -16,9 +16,16 @@ split x = record { mach = x / 2 ^ 32; macl = x % 2 ^ 32 }
 abbrev pub joined : Mac → ℕ
 joined a = a .mach * 2 ^ 32 + a .macl
 
+-- The signed product of two longs, and of the low words of two registers.
+abbrev pub productLong : ℕ → ℕ → ℤ
+productLong m n = signedLong n *ℤ signedLong m
+
+abbrev pub productWord : ℕ → ℕ → ℤ
+productWord m n = signedWord n *ℤ signedWord m
+
 -- 6.20 DMULS.L
 abbrev pub dmulsL : ℕ → ℕ → Mac
-dmulsL m n = split (lowQuad (signedLong n *ℤ signedLong m))
+dmulsL m n = split (lowQuad (productLong m n))
 
 -- 6.21 DMULU.L
 abbrev pub dmuluL : ℕ → ℕ → Mac
@@ -30,7 +37,7 @@ mulL m n = low32 (n * m)
 
 -- 6.39 MULS.W: MACL
 abbrev pub mulsW : ℕ → ℕ → ℕ
-mulsW m n = lowLong (signedWord (n % 2 ^ 16) *ℤ signedWord (m % 2 ^ 16))
+mulsW m n = lowLong (productWord m n)
 
 -- 6.40 MULU.W: MACL
 abbrev pub muluW : ℕ → ℕ → ℕ
@@ -48,21 +55,18 @@ held least most z = cond (ltZ z least) least (cond (ltZ most z) most z)
 abbrev pub macLHeld : Mac → ℤ → Mac
 macLHeld a product =
     split
-    (lowQuad (held (negsuc (2 ^ 47 - 1)) (pos (2 ^ 47 - 1)) (signed (2 ^ 47) (joined a % 2 ^ 48) +ℤ product)))
+    (lowQuad (held (negℤ (pos (2 ^ 47))) (pos (2 ^ 47 - 1)) (signed (2 ^ 47) (joined a % 2 ^ 48) +ℤ product)))
 
 abbrev pub macL : Mac → ℕ → ℕ → ℕ → Mac
-macL a s m n =
-    cond (eqb s 1) (macLHeld a (signedLong n *ℤ signedLong m)) (summed a (signedLong n *ℤ signedLong m))
+macL a s m n = cond (eqb s 1) (macLHeld a (productLong m n)) (summed a (productLong m n))
 
 -- 6.31 MAC.W. With S = 1: the product is added to MACL as a signed number and held within -2^31 to 2^31 - 1; MACH stays.
 abbrev pub macWHeld : Mac → ℤ → Mac
 macWHeld a product =
     record {
       mach = a .mach;
-      macl = lowLong (held (negsuc (2 ^ 31 - 1)) (pos (2 ^ 31 - 1)) (signedLong (a .macl) +ℤ product));
+      macl = lowLong (held (negℤ (pos (2 ^ 31))) (pos (2 ^ 31 - 1)) (signedLong (a .macl) +ℤ product));
     }
 
 abbrev pub macW : Mac → ℕ → ℕ → ℕ → Mac
-macW a s m n =
-    cond (eqb s 1) (macWHeld a (signedWord (n % 2 ^ 16) *ℤ signedWord (m % 2 ^ 16)))
-    (summed a (signedWord (n % 2 ^ 16) *ℤ signedWord (m % 2 ^ 16)))
+macW a s m n = cond (eqb s 1) (macWHeld a (productWord m n)) (summed a (productWord m n))

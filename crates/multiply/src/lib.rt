@@ -1,17 +1,14 @@
 // Multiplications, and multiplications that add to MACH and MACL: document 000, sections 6.20, 6.21, 6.29, 6.31 and 6.38 to 6.40.
+use numbers::HALF;
+use numbers::REACH;
 use std::num::wrapping_add_u64;
 ghost use mathlib.Core.Path.{_≡_};
 ghost use Prim.Native.Nat.{_+_, _<_, _%_, _^_};
-ghost use lib.IntN.{_*ℤ_};
 ghost use lib.Signed.{mag};
-ghost use Rattle.numbers.specs.Numbers.{signed, signedLong, signedWord};
+ghost use Rattle.numbers.specs.Numbers.{signed};
 ghost use Rattle.multiply.specs.Multiply as Multiply;
 
-const REACH: u64 = 4294967296;
-
-const HALF_LONG: u32 = 2147483648;
-
-const HALF_WORD: u32 = 32768;
+const HALF_WORD: u32 = 0x8000;
 
 pub struct Mac {
     pub mach: u32,
@@ -45,7 +42,7 @@ pub fn muls_w(m: u32, n: u32) -> u32
 pub fn mulu_w(m: u32, n: u32) -> u32
     ensures { λ r. ⌜ r ≡ Multiply.muluW m n ⌝ }
 {
-    n % 65536 * (m % 65536)
+    n % 0x1_0000 * (m % 0x1_0000)
 }
 
 pub fn mac_l(a: Mac, s: u32, m: u32, n: u32) -> Mac
@@ -73,17 +70,17 @@ fn mac_l_held(a: Mac, product: i64) -> Mac
     ensures { λ r. ⌜ r ≡ Multiply.macLHeld a product ⌝ }
 {
     let sum = signed_48(joined(a)) + product;
-    split(numbers::low_quad(held(-140737488355328, 140737488355327, sum)))
+    split(numbers::low_quad(held(-0x8000_0000_0000, 0x7fff_ffff_ffff, sum)))
 }
 
 fn mac_w_held(a: Mac, product: i64) -> Mac
     requires { ⌜ mag product < 2 ^ 62 + 1 ⌝ }
     ensures { λ r. ⌜ r ≡ Multiply.macWHeld a product ⌝ }
 {
-    let sum = numbers::signed(a.macl, HALF_LONG) + product;
+    let sum = numbers::signed(a.macl, HALF) + product;
     Mac {
         mach: a.mach,
-        macl: numbers::low_long(held(-2147483648, 2147483647, sum)),
+        macl: numbers::low_long(held(-0x8000_0000, 0x7fff_ffff, sum)),
     }
 }
 
@@ -94,25 +91,25 @@ fn summed(a: Mac, product: i64) -> Mac
 }
 
 fn product_of_longs(m: u32, n: u32) -> i64
-    ensures { λ r. ⌜ r ≡ signedLong n *ℤ signedLong m ⌝ }
+    ensures { λ r. ⌜ r ≡ Multiply.productLong m n ⌝ }
 {
-    numbers::signed(n, HALF_LONG) * numbers::signed(m, HALF_LONG)
+    numbers::signed(n, HALF) * numbers::signed(m, HALF)
 }
 
 fn product_of_words(m: u32, n: u32) -> i64
-    ensures { λ r. ⌜ r ≡ signedWord (n % 2 ^ 16) *ℤ signedWord (m % 2 ^ 16) ⌝ }
+    ensures { λ r. ⌜ r ≡ Multiply.productWord m n ⌝ }
 {
-    numbers::signed(n % 65536, HALF_WORD) * numbers::signed(m % 65536, HALF_WORD)
+    numbers::signed(n % 0x1_0000, HALF_WORD) * numbers::signed(m % 0x1_0000, HALF_WORD)
 }
 
 fn signed_48(x: u64) -> i64
     ensures { λ r. ⌜ r ≡ signed (2 ^ 47) (x % 2 ^ 48) ⌝ }
 {
-    let low = x % 281474976710656;
-    if low < 140737488355328 {
+    let low = x % 0x1_0000_0000_0000;
+    if low < 0x8000_0000_0000 {
         return low as i64;
     }
-    low as i64 - 281474976710656
+    low as i64 - 0x1_0000_0000_0000
 }
 
 fn held(least: i64, most: i64, z: i64) -> i64

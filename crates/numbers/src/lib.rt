@@ -1,6 +1,11 @@
-// Registers read as signed numbers, and signed numbers put back into registers (document 000, section 3.1).
+// Registers read as signed numbers, and signed numbers put back into registers (document 000, sections 3.1 and 6.1).
 ghost use mathlib.Core.Path.{_≡_};
 ghost use Rattle.numbers.specs.Numbers.{signed as signedOf, lowLong, lowQuad, overflows as overflowsOf};
+
+// 2^32, the first number that a register cannot hold, and its half, from which on a register's top bit is set.
+pub const REACH: u64 = 0x1_0000_0000;
+
+pub const HALF: u32 = 0x8000_0000;
 
 // A register's new value, and the T bit.
 pub struct WithT {
@@ -22,10 +27,10 @@ pub fn low_long(z: i64) -> u32
     ensures { λ r. ⌜ r ≡ lowLong z ⌝ }
 {
     if z >= 0 {
-        return (z % 4294967296) as u32;
+        return (z % 0x1_0000_0000) as u32;
     }
     let below = -1 - z;
-    4294967295 - (below % 4294967296) as u32
+    0xffff_ffff - (below % 0x1_0000_0000) as u32
 }
 
 pub fn low_quad(z: i64) -> u64
@@ -35,15 +40,15 @@ pub fn low_quad(z: i64) -> u64
         return z as u64;
     }
     let below = -1 - z;
-    18446744073709551615 - below as u64
+    0xffff_ffff_ffff_ffff - below as u64
 }
 
 // Not a signed number of 32 bits.
 pub fn overflows(z: i64) -> bool
     ensures { λ r. ⌜ r ≡ overflowsOf z ⌝ }
 {
-    if z < -2147483648 {
+    if z < -0x8000_0000 {
         return true;
     }
-    z > 2147483647
+    z > 0x7fff_ffff
 }

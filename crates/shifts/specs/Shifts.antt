@@ -25,7 +25,8 @@ rotr n = record { value = n / 2 + n % 2 * 2 ^ 31; t = n % 2 }
 abbrev pub shll : ℕ → WithT
 shll n = record { value = low32 (n * 2); t = n / 2 ^ 31 }
 
--- 6.54 SHAR: the signed number halved and rounded down, so that the top bit stays; the bottom bit leaves into T.
+-- 6.54 SHAR: the signed number divided by 2 and rounded down, so that the top bit stays; the bottom bit leaves into T. `shrZ` takes the
+-- divisor, not how many places to shift.
 abbrev pub shar : ℕ → WithT
 shar n = record { value = lowLong (shrZ (signedLong n) 2); t = n % 2 }
 

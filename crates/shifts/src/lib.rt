@@ -1,11 +1,9 @@
 // Shifts and rotates: document 000, sections 6.46 to 6.49 and 6.53 to 6.58.
+use numbers::HALF;
+use numbers::REACH;
 use numbers::WithT;
 ghost use mathlib.Core.Path.{_≡_};
 ghost use Rattle.shifts.specs.Shifts as Shifts;
-
-const REACH: u64 = 4294967296;
-
-const HALF: u32 = 2147483648;
 
 pub fn rotcl(n: u32, t: u32) -> WithT
     ensures { λ r. ⌜ r ≡ Shifts.rotcl n t ⌝ }
@@ -83,13 +81,13 @@ pub fn shll2(n: u32) -> u32
 pub fn shll8(n: u32) -> u32
     ensures { λ r. ⌜ r ≡ Shifts.shll8 n ⌝ }
 {
-    (n as u64 * 256 % REACH) as u32
+    (n as u64 * 0x100 % REACH) as u32
 }
 
 pub fn shll16(n: u32) -> u32
     ensures { λ r. ⌜ r ≡ Shifts.shll16 n ⌝ }
 {
-    (n as u64 * 65536 % REACH) as u32
+    (n as u64 * 0x1_0000 % REACH) as u32
 }
 
 pub fn shlr2(n: u32) -> u32
@@ -101,11 +99,11 @@ pub fn shlr2(n: u32) -> u32
 pub fn shlr8(n: u32) -> u32
     ensures { λ r. ⌜ r ≡ Shifts.shlr8 n ⌝ }
 {
-    n / 256
+    n / 0x100
 }
 
 pub fn shlr16(n: u32) -> u32
     ensures { λ r. ⌜ r ≡ Shifts.shlr16 n ⌝ }
 {
-    n / 65536
+    n / 0x1_0000
 }

@@ -5,27 +5,6 @@ use borrow.Author.Needs.{needs}
 use Rattle.divide.proofs.div1.Statement.{statement}
 use Rattle.divide.proofs.div1.Tie as tie
 
-mul-doubled : tie.Need-mul-doubled
-mul-doubled c = search needs
-
-add-doubled : tie.Need-add-doubled
-add-doubled c = search needs
-
-cast-doubled : tie.Need-cast-doubled
-cast-doubled c = search needs
-
-partial-remainder-requires : tie.Need-partial-remainder-requires
-partial-remainder-requires c κs = search needs
-
-cast-new-q : tie.Need-cast-new-q
-cast-new-q c = search needs
-
-cast-new-q-2 : tie.Need-cast-new-q-2
-cast-new-q-2 c = search needs
-
-cast-t15 : tie.Need-cast-t15
-cast-t15 c = search needs
-
 returns : tie.Need-returns
 returns c =
     let p = c .before .partial-remainder in
@@ -34,12 +13,5 @@ returns c =
 pub div1-spec : {M : Type 1} → statement M
 div1-spec =
     tie.close
-    (tie.spec
-    mul-doubled
-    add-doubled
-    cast-doubled
-    partial-remainder-requires
-    cast-new-q
-    cast-new-q-2
-    cast-t15
+    (tie.spec (search needs) (search needs) (search needs) (search needs) (search needs) (search needs) (search needs)
     returns)

@@ -5,18 +5,8 @@ use borrow.Author.Needs.{needs}
 use Rattle.multiply.proofs.dmuls_l.Statement.{statement}
 use Rattle.multiply.proofs.dmuls_l.Tie as tie
 
-product-of-longs-requires : tie.Need-product-of-longs-requires
-product-of-longs-requires c κs = search needs
-
-low-quad-requires : tie.Need-low-quad-requires
-low-quad-requires c κs = search needs
-
-split-requires : tie.Need-split-requires
-split-requires c κs = search needs
-
 returns : tie.Need-returns
 returns c = rw (c .split .ensures, c .before .low-quad .ensures, read-back (c .before .before .product-of-longs .result) (c .before .before .product-of-longs .ok), c .before .before .product-of-longs .ensures)
 
 pub dmuls-l-spec : {M : Type 1} → statement M
-dmuls-l-spec =
-    tie.close (tie.spec product-of-longs-requires low-quad-requires split-requires returns)
+dmuls-l-spec = tie.close (tie.spec (search needs) (search needs) (search needs) returns)

@@ -8,11 +8,5 @@ use Rattle.multiply.proofs.dmulu_l.Tie as tie
 mul-split : tie.Need-mul-split
 mul-split c = record { fits = product-below 32 (c .fits .n .fits) (c .fits .m .fits) }
 
-split-requires : tie.Need-split-requires
-split-requires c κs = search needs
-
-returns : tie.Need-returns
-returns c = search needs
-
 pub dmulu-l-spec : {M : Type 1} → statement M
-dmulu-l-spec = tie.close (tie.spec mul-split split-requires returns)
+dmulu-l-spec = tie.close (tie.spec mul-split (search needs) (λ c. search needs))

@@ -7,9 +7,6 @@ use borrow.Author.Needs.{needs}
 use Rattle.multiply.proofs.mac_l.Statement.{statement}
 use Rattle.multiply.proofs.mac_l.Tie as tie
 
-product-of-longs-requires : tie.Need-product-of-longs-requires
-product-of-longs-requires c κs = search needs
-
 mac-l-held-requires : tie.Need-mac-l-held-requires
 mac-l-held-requires c κs =
     let p = c .before .product-of-longs in
@@ -22,15 +19,10 @@ returns c =
     let p = c .before .before .product-of-longs in
     rw (c .mac-l-held .ensures, read-back (p .result) (p .ok), p .ensures, eq-eqb _ _ (c .before .if1 .taken))
 
-summed-requires : tie.Need-summed-requires
-summed-requires c κs = search needs
-
 returns-2 : tie.Need-returns-2
 returns-2 c =
     let p = c .before .before .product-of-longs in
     rw (c .summed .ensures, read-back (p .result) (p .ok), p .ensures, ne-eqb _ _ (c .before .if1 .left))
 
 pub mac-l-spec : {M : Type 1} → statement M
-mac-l-spec =
-    tie.close
-    (tie.spec product-of-longs-requires mac-l-held-requires returns summed-requires returns-2)
+mac-l-spec = tie.close (tie.spec (search needs) mac-l-held-requires returns (search needs) returns-2)

@@ -7,9 +7,6 @@ use borrow.Author.Needs.{needs}
 use Rattle.multiply.proofs.mac_w.Statement.{statement}
 use Rattle.multiply.proofs.mac_w.Tie as tie
 
-product-of-words-requires : tie.Need-product-of-words-requires
-product-of-words-requires c κs = search needs
-
 mac-w-held-requires : tie.Need-mac-w-held-requires
 mac-w-held-requires c κs =
     let p = c .before .product-of-words in
@@ -21,15 +18,10 @@ returns c =
     let p = c .before .before .product-of-words in
     rw (c .mac-w-held .ensures, read-back (p .result) (p .ok), p .ensures, eq-eqb _ _ (c .before .if1 .taken))
 
-summed-requires : tie.Need-summed-requires
-summed-requires c κs = search needs
-
 returns-2 : tie.Need-returns-2
 returns-2 c =
     let p = c .before .before .product-of-words in
     rw (c .summed .ensures, read-back (p .result) (p .ok), p .ensures, ne-eqb _ _ (c .before .if1 .left))
 
 pub mac-w-spec : {M : Type 1} → statement M
-mac-w-spec =
-    tie.close
-    (tie.spec product-of-words-requires mac-w-held-requires returns summed-requires returns-2)
+mac-w-spec = tie.close (tie.spec (search needs) mac-w-held-requires returns (search needs) returns-2)

@@ -1,5 +1,6 @@
 -- `mac_w_held` forms the sum of MACL and the product, which fits 64 bits, holds it and gives its 32 bits.
 -- Assumes nothing.
+use Prim.Native.Nat.{_^_}
 use native.Mathlib.Omega.{arith}
 use lib.IntN.{_+ℤ_}
 use mir.Facts.{toZ-ofZ}
@@ -10,27 +11,17 @@ use borrow.Author.Needs.{needs}
 use Rattle.multiply.proofs.mac_w_held.Statement.{statement}
 use Rattle.multiply.proofs.mac_w_held.Tie as tie
 
-signed-requires : tie.Need-signed-requires
-signed-requires c κs = search needs
-
 add-sum : tie.Need-add-sum
 add-sum c =
     let a = c .before .args in
     rw (read-back (c .signed .result) (c .signed .ok), c .signed .ensures, toZ-ofZ (c .before .fits .product))
-    (record { sfits = added-fits 2147483648 (a .a .macl) (a .product) (omega arith) (omega arith) (c .before .pre) })
-
-held-requires : tie.Need-held-requires
-held-requires c κs = search needs
-
-low-long-requires : tie.Need-low-long-requires
-low-long-requires c κs = search needs
+    (record { sfits = added-fits (2 ^ 31) (a .a .macl) (a .product) (omega arith) (omega arith) (c .before .pre) })
 
 returns : tie.Need-returns
 returns c =
     let s = c .before .before in
     let a = s .before .args in
-    rw (c .low-long .ensures, read-back (c .before .held .result) (c .before .held .ok), c .before .held .ensures, read-back (s .signed .result) (s .signed .ok), toZ-ofZ (s .before .fits .product), s .signed .ensures, read-back (signed 2147483648 (a .a .macl) +ℤ a .product) (added-fits 2147483648 (a .a .macl) (a .product) (omega arith) (omega arith) (s .before .pre)))
+    rw (c .low-long .ensures, read-back (c .before .held .result) (c .before .held .ok), c .before .held .ensures, read-back (s .signed .result) (s .signed .ok), toZ-ofZ (s .before .fits .product), s .signed .ensures, read-back (signed (2 ^ 31) (a .a .macl) +ℤ a .product) (added-fits (2 ^ 31) (a .a .macl) (a .product) (omega arith) (omega arith) (s .before .pre)))
 
 pub mac-w-held-spec : {M : Type 1} → statement M
-mac-w-held-spec =
-    tie.close (tie.spec signed-requires add-sum held-requires low-long-requires returns)
+mac-w-held-spec = tie.close (tie.spec (search needs) add-sum (search needs) (search needs) returns)

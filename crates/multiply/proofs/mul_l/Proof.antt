@@ -8,11 +8,5 @@ use Rattle.multiply.proofs.mul_l.Tie as tie
 mul-result : tie.Need-mul-result
 mul-result c = record { fits = product-below 32 (c .fits .n .fits) (c .fits .m .fits) }
 
-cast-result : tie.Need-cast-result
-cast-result c = search needs
-
-returns : tie.Need-returns
-returns c = search needs
-
 pub mul-l-spec : {M : Type 1} → statement M
-mul-l-spec = tie.close (tie.spec mul-result cast-result returns)
+mul-l-spec = tie.close (tie.spec mul-result (search needs) (λ c. search needs))

@@ -5,14 +5,8 @@ use borrow.Author.Needs.{needs}
 use Rattle.multiply.proofs.muls_w.Statement.{statement}
 use Rattle.multiply.proofs.muls_w.Tie as tie
 
-product-of-words-requires : tie.Need-product-of-words-requires
-product-of-words-requires c κs = search needs
-
-low-long-requires : tie.Need-low-long-requires
-low-long-requires c κs = search needs
-
 returns : tie.Need-returns
 returns c = rw (c .low-long .ensures, read-back (c .before .product-of-words .result) (c .before .product-of-words .ok), c .before .product-of-words .ensures)
 
 pub muls-w-spec : {M : Type 1} → statement M
-muls-w-spec = tie.close (tie.spec product-of-words-requires low-long-requires returns)
+muls-w-spec = tie.close (tie.spec (search needs) (search needs) returns)

@@ -13,25 +13,19 @@ use borrow.Author.Needs.{needs}
 use Rattle.multiply.proofs.signed_48.Statement.{statement}
 use Rattle.multiply.proofs.signed_48.Tie as tie
 
-plain : (x : ℕ) → toZ w64 (x % 281474976710656) ≡ pos (x % 281474976710656)
+plain : (x : ℕ) → toZ w64 (x % 2 ^ 48) ≡ pos (x % 2 ^ 48)
 plain x = toZ-pos w64 (omega arith)
-
-cast-result : tie.Need-cast-result
-cast-result c = search needs
 
 returns : tie.Need-returns
 returns c = rw (lt-ltb _ _ (c .if1 .taken)) (toZ-pos w64 (omega arith))
 
-cast-result-2 : tie.Need-cast-result-2
-cast-result-2 c = search needs
-
 sub-result : tie.Need-sub-result
-sub-result c = rw (plain (c .before .args .x), minus (c .before .args .x % 281474976710656) 281474976710656) (record { sfits = mag-subℕ (c .before .args .x % 281474976710656) 281474976710656 (2 ^ 63) (omega arith) (omega arith) })
+sub-result c = rw (plain (c .before .args .x), minus (c .before .args .x % 2 ^ 48) (2 ^ 48)) (record { sfits = mag-subℕ (c .before .args .x % 2 ^ 48) (2 ^ 48) (2 ^ 63) (omega arith) (omega arith) })
 
 returns-2 : tie.Need-returns-2
 returns-2 c =
     let x = c .before .args .x in
-    rw (plain x, minus (x % 281474976710656) 281474976710656, read-back (subℕ (x % 281474976710656) 281474976710656) (mag-subℕ (x % 281474976710656) 281474976710656 (2 ^ 63) (omega arith) (omega arith)), le-ltb _ _ (c .if1 .left))
+    rw (plain x, minus (x % 2 ^ 48) (2 ^ 48), read-back (subℕ (x % 2 ^ 48) (2 ^ 48)) (mag-subℕ (x % 2 ^ 48) (2 ^ 48) (2 ^ 63) (omega arith) (omega arith)), le-ltb _ _ (c .if1 .left))
 
 pub signed-48-spec : {M : Type 1} → statement M
-signed-48-spec = tie.close (tie.spec cast-result returns cast-result-2 sub-result returns-2)
+signed-48-spec = tie.close (tie.spec (search needs) returns (search needs) sub-result returns-2)

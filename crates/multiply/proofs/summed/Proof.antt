@@ -5,22 +5,8 @@ use borrow.Author.Needs.{needs}
 use Rattle.multiply.proofs.summed.Statement.{statement}
 use Rattle.multiply.proofs.summed.Tie as tie
 
-joined-requires : tie.Need-joined-requires
-joined-requires c κs = search needs
-
-low-quad-requires : tie.Need-low-quad-requires
-low-quad-requires c κs = search needs
-
-wrapping-add-u64-requires : tie.Need-wrapping-add-u64-requires
-wrapping-add-u64-requires c κs = search needs
-
-split-requires : tie.Need-split-requires
-split-requires c κs = search needs
-
 returns : tie.Need-returns
 returns c = rw (c .split .ensures, c .before .wrapping-add-u64 .ensures, c .before .before .low-quad .ensures, toZ-ofZ (c .before .before .before .before .fits .product), c .before .before .before .joined .ensures)
 
 pub summed-spec : {M : Type 1} → statement M
-summed-spec =
-    tie.close
-    (tie.spec joined-requires low-quad-requires wrapping-add-u64-requires split-requires returns)
+summed-spec = tie.close (tie.spec (search needs) (search needs) (search needs) (search needs) returns)

@@ -15,15 +15,15 @@ use Rattle.numbers.proofs.low_long.Tie as tie
 
 -- The remainder by 2^32 of a number that fits, and what a cast of it to 32 bits asks.
 module _ (n : ℕ) (h : n < 2 ^ 63) where
-  quotient : SFits w64 (quotZ (pos n) (pos 4294967296))
+  quotient : SFits w64 (quotZ (pos n) (pos 0x1_0000_0000))
   quotient = record { sfits = omega arith }
 
-  remainder : toZ w64 (ofZ w64 (remZ (pos n) (pos 4294967296))) ≡ pos (n % 4294967296)
+  remainder : toZ w64 (ofZ w64 (remZ (pos n) (pos 0x1_0000_0000))) ≡ pos (n % 0x1_0000_0000)
   remainder = toZ-pos w64 (omega arith)
 
   casts :
-      T (nonNeg (toZ w64 (ofZ w64 (remZ (pos n) (pos 4294967296))))) ×
-      Fits w32 (natAbs (toZ w64 (ofZ w64 (remZ (pos n) (pos 4294967296)))))
+      T (nonNeg (toZ w64 (ofZ w64 (remZ (pos n) (pos 0x1_0000_0000))))) ×
+      Fits w32 (natAbs (toZ w64 (ofZ w64 (remZ (pos n) (pos 0x1_0000_0000)))))
   casts = rw remainder (tt, record { fits = omega arith })
 
 rem-result : tie.Need-rem-result

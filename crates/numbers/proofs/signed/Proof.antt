@@ -27,23 +27,11 @@ twice x half f g =
     rw (toZ-ofZ (once x half f g), plain x f, plain half g, minus-twice x half half)
     (record { sfits = mag-subℕ x (half + half) (2 ^ 63) (omega arith) (omega arith) })
 
-cast-result : tie.Need-cast-result
-cast-result c = search needs
-
 returns : tie.Need-returns
 returns c = rw (lt-ltb _ _ (c .if1 .taken)) (plain (c .before .args .x) (c .before .fits .x .fits))
 
-cast-result-2 : tie.Need-cast-result-2
-cast-result-2 c = search needs
-
-cast-result-3 : tie.Need-cast-result-3
-cast-result-3 c = search needs
-
 sub-result : tie.Need-sub-result
 sub-result c = once (c .before .args .x) (c .before .args .half) (c .before .fits .x .fits) (c .before .fits .half .fits)
-
-cast-result-4 : tie.Need-cast-result-4
-cast-result-4 c = search needs
 
 sub-result-2 : tie.Need-sub-result-2
 sub-result-2 c = twice (c .before .args .x) (c .before .args .half) (c .before .fits .x .fits) (c .before .fits .half .fits)
@@ -59,12 +47,4 @@ returns-2 c =
 pub signed-spec : {M : Type 1} → statement M
 signed-spec =
     tie.close
-    (tie.spec
-    cast-result
-    returns
-    cast-result-2
-    cast-result-3
-    sub-result
-    cast-result-4
-    sub-result-2
-    returns-2)
+    (tie.spec (search needs) returns (search needs) (search needs) sub-result (search needs) sub-result-2 returns-2)

@@ -7,12 +7,6 @@ use Rattle.numbers.proofs.Integers.{read-back}
 use Rattle.shifts.proofs.shar.Statement.{statement}
 use Rattle.shifts.proofs.shar.Tie as tie
 
-signed-requires : tie.Need-signed-requires
-signed-requires c κs = search needs
-
-low-long-requires : tie.Need-low-long-requires
-low-long-requires c κs = search needs
-
 returns : tie.Need-returns
 returns c =
     let s = c .before .signed in
@@ -20,4 +14,4 @@ returns c =
     (c .low-long .ensures, read-back (s .result) (s .ok), read-back (shrZ (s .result) 2) (omega (arith, mag-shr (s .result) 2, s .ok)), s .ensures)
 
 pub shar-spec : {M : Type 1} → statement M
-shar-spec = tie.close (tie.spec signed-requires low-long-requires returns)
+shar-spec = tie.close (tie.spec (search needs) (search needs) returns)

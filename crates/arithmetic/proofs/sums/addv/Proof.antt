@@ -8,25 +8,10 @@ use borrow.Author.Needs.{needs}
 use Rattle.arithmetic.proofs.sums.addv.Statement.{statement}
 use Rattle.arithmetic.proofs.sums.addv.Tie as tie
 
-signed-requires : tie.Need-signed-requires
-signed-requires c κs = search needs
-
-signed-requires-2 : tie.Need-signed-requires-2
-signed-requires-2 c κs = search needs
-
 add-sum : tie.Need-add-sum
 add-sum c =
     rw (read-back (c .before .signed .result) (c .before .signed .ok), read-back (c .signed2 .result) (c .signed2 .ok), c .before .signed .ensures, c .signed2 .ensures)
     (record { sfits = sum-fits (c .before .before .args .n) (c .before .before .args .m) (c .before .before .fits .n .fits) (c .before .before .fits .m .fits) })
-
-wrapping-add-u32-requires : tie.Need-wrapping-add-u32-requires
-wrapping-add-u32-requires c κs = search needs
-
-overflows-requires : tie.Need-overflows-requires
-overflows-requires c κs = search needs
-
-cast-t8 : tie.Need-cast-t8
-cast-t8 c = search needs
 
 returns : tie.Need-returns
 returns c =
@@ -39,11 +24,4 @@ returns c =
 pub addv-spec : {M : Type 1} → statement M
 addv-spec =
     tie.close
-    (tie.spec
-    signed-requires
-    signed-requires-2
-    add-sum
-    wrapping-add-u32-requires
-    overflows-requires
-    cast-t8
-    returns)
+    (tie.spec (search needs) (search needs) add-sum (search needs) (search needs) (search needs) returns)
