@@ -1,6 +1,7 @@
 pub mod Answers
 pub mod Bounds
 pub mod Cases
+pub mod Determined
 pub mod Effects
 pub mod Families
 pub mod Kept
