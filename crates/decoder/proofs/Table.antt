@@ -1,7 +1,7 @@
 -- The theorems about the code table: each is one test, computed over the rows, and a law that lifts it to every word.
 -- Assumes nothing.
 use mathlib.Core.Path.{_≡_, refl, sym, _∙_, subst}
-use mathlib.Core.Bool.{Bool, true, false, _&&_, _||_, not}
+use mathlib.Core.Bool.{Bool, true, false, _||_, not}
 use mathlib.Core.List.{List, [], _∷_, List·Memᴰ}
 use mathlib.Core.Logic.{_↔_}
 use Prim.Native.Nat.{ℕ, _+_, _*_, _/_, _%_, _≤_}
@@ -12,14 +12,14 @@ use denote.Enum.Declared.{tagOf}
 use lib.ListN.{length}
 use lib.Dec.{T, T-not, ltb, eqb, eqb→eq, eqb-refl}
 use Rattle.decoder.specs.Pattern.{Group, fixed, part, Code, Nibbles, nibbles, agrees, code, matches}
-use Rattle.decoder.specs.Code.{among, meaning, rowMatches, rowMeans, unmatched}
+use Rattle.decoder.specs.Code.{meaning, rowMatches, rowMeans, unmatched}
 use Rattle.decoder.specs.Table.{Row, table}
 use Rattle.decoder.specs.Slot.{rewritesPc}
 use Rattle.decoder.specs.declared.meaning.Meaning.{Meaning}
 use Rattle.decoder.specs.declared.meaning.Meaning.the-variants.{Undefined}
 use Rattle.decoder.proofs.meaning.Meaning.{the-type}
 use Rattle.decoder.proofs.Conjunction.{all-pass, one-fails}
-use Rattle.decoder.proofs.Rows.{every, allApart, howMany, at-most-one, whichever, means-all, undefined-none, none-undefined}
+use Rattle.decoder.proofs.Rows.{every, howMany, at-most-one, whichever, means-all, undefined-none, none-undefined}
 use Rattle.decoder.proofs.Widths.{within}
 
 -- Two codes that fix one nibble to two numbers.

@@ -25,13 +25,13 @@ use Rattle.report.specs.Report.{
   valueText,
 }
 use Rattle.document_examples.proofs.Runs.{image, small}
-use Rattle.text.specs.Text.{ascii, decimal, hex, lineFeed}
+use Rattle.text.specs.Text.{ascii, decimal, hexIn, lineFeed}
 
 pub whole-output :
     report small ≡
     ascii "state asleep steps 2" ++ lineFeed ++ ascii "pc 00000204 sr 000000f0" ++ lineFeed ++ ascii "r0 00000005" ++ lineFeed ++
     ascii "r15 00000400" ++ lineFeed
-unfolding small image outcome run step meaning among table attempted execute accessible loaded valueAt answerText machineText stateLine modeText pcLine targetLine generalLines controlLines registerLine valueText hex decimal
+unfolding small image outcome run step meaning among table attempted execute accessible loaded valueAt answerText machineText stateLine modeText pcLine targetLine generalLines controlLines registerLine valueText hexIn decimal
 whole-output = refl
 
 -- "Length 1,022 is 1; length 0 and 1,020 are 2"

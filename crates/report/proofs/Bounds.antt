@@ -17,6 +17,7 @@ use Rattle.machine.specs.declared.Machine.{Machine}
 use Rattle.machine.specs.declared.Mode.{Mode}
 use Rattle.machine.specs.declared.Mode.the-variants.{Running, Slot, Asleep, Stopped}
 use Rattle.text.specs.Text.{ascii, decimal, hex, lineFeed}
+use Rattle.text.specs.declared.digits.Case.the-variants.{Lower}
 use Rattle.text.proofs.Figures.{decimal-length, hex-length}
 use Rattle.report.specs.Report.{
   Reports,
@@ -46,7 +47,7 @@ word : (x : List ℕ) → Most (length x) x
 word x = record { most = le-refl (length x) }
 
 hex-most : (n : ℕ) → Most 8 (hex 8 n)
-hex-most n = record { most = rw (hex-length 8 n) (le-refl 8) }
+hex-most n = record { most = rw (hex-length Lower 8 n) (le-refl 8) }
 
 decimal-most : (k n : ℕ) → Most k (decimal k n)
 decimal-most k n = record { most = decimal-length k n }

@@ -1,3 +1,4 @@
 pub mod Figures
 pub mod Filling
+pub mod Values
 pub mod Writes

@@ -1,0 +1,44 @@
+-- Hexadecimal, read: document 02, requests One (either case) and Fourteen (lower case alone).
+use mathlib.Core.Bool.{Bool, true, false, _&&_, cond}
+use mathlib.Core.List.{List, [], _∷_}
+use Prim.Native.Nat.{ℕ, _+_, _-_, _*_, _%_, _^_}
+use lib.Dec.{leb, ltb}
+use lib.ListN.{drop, length, take}
+use Rattle.text.specs.declared.reading.Letters.{Letters}
+use Rattle.text.specs.declared.reading.Letters.the-variants.{LowerCase, EitherCase}
+use Rattle.text.specs.declared.reading.Hex.{Hex}
+use Rattle.text.specs.declared.reading.Hex.the-variants.{Number, NotHex}
+
+abbrev pub between : ℕ → ℕ → ℕ → Bool
+between first last byte = leb first byte && leb byte last
+
+abbrev upperToo : Letters → Bool
+upperToo LowerCase = false
+upperToo EitherCase = true
+
+-- The value of a digit's character: 0 to 9, a to f, and A to F where they are read too.
+unfoldable pub digitValue : Letters → ℕ → Hex
+digitValue letters byte =
+    cond (between 48 57 byte) (Number (byte - 48))
+    (cond (between 97 102 byte) (Number (byte - 87))
+    (cond (upperToo letters && between 65 70 byte) (Number (byte - 55)) NotHex))
+
+abbrev pub andThen : Hex → (ℕ → Hex) → Hex
+andThen (Number n) f = f n
+andThen NotHex f = NotHex
+
+-- The number that a text's digits make behind those that have made n.
+unfoldable pub onward : Letters → ℕ → List ℕ → Hex
+onward letters n [] = Number n
+onward letters n (byte ∷ rest) = andThen (digitValue letters byte) (λ d. onward letters (n * 16 + d) rest)
+
+abbrev pub value : Letters → List ℕ → Hex
+value letters text = onward letters 0 text
+
+-- The k digits at a place.
+abbrev pub valueAt : Letters → List ℕ → ℕ → ℕ → Hex
+valueAt letters text at k = cond (ltb (length text) (at + k)) NotHex (value letters (take k (drop at text)))
+
+-- Of a number that is too long, the low 32 bits.
+abbrev pub lowLong : Hex → Hex
+lowLong h = andThen h (λ n. Number (n % 2 ^ 32))

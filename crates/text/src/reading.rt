@@ -1,0 +1,68 @@
+// Hexadecimal, read.
+ghost use mathlib.Core.Path.{_≡_};
+ghost use Rattle.text.specs.Reading as Reading;
+
+// Whether the letters A to F are read besides a to f.
+pub enum Letters {
+    LowerCase,
+    EitherCase,
+}
+
+// What was read: a number, or a text that is not one.
+pub enum Hex {
+    Number(u32),
+    NotHex,
+}
+
+fn between(first: u8, last: u8, byte: u8) -> bool
+    ensures { λ r. ⌜ r ≡ Reading.between first last byte ⌝ }
+{
+    first <= byte && byte <= last
+}
+
+pub fn digit_value(letters: Letters, byte: u8) -> Hex
+    ensures { λ r. ⌜ r ≡ Reading.digitValue letters byte ⌝ }
+{
+    if between(48, 57, byte) {
+        return Hex::Number(byte as u32 - 48);
+    }
+    if between(97, 102, byte) {
+        return Hex::Number(byte as u32 - 87);
+    }
+    match letters {
+        Letters::LowerCase => Hex::NotHex,
+        Letters::EitherCase => {
+            if between(65, 70, byte) {
+                return Hex::Number(byte as u32 - 55);
+            }
+            Hex::NotHex
+        }
+    }
+}
+
+// The k digits at a place.
+pub fn hex_value(text: &[u8], at: usize, letters: Letters, k: usize) -> Hex
+    ensures { λ r. ⌜ r ≡ Reading.lowLong (Reading.valueAt letters (now (text .entry)) at k) ⌝ }
+{
+    if text.len() < at {
+        return Hex::NotHex;
+    }
+    if text.len() - at < k {
+        return Hex::NotHex;
+    }
+    let mut n: u32 = 0;
+    let mut i = 0;
+    while i < k {
+        let digit = digit_value(letters, text[at + i]);
+        match digit {
+            Hex::Number(d) => {
+                n = n % 0x1000_0000 * 16 + d;
+            }
+            Hex::NotHex => {
+                return Hex::NotHex;
+            }
+        }
+        i += 1;
+    }
+    Hex::Number(n)
+}
