@@ -23,6 +23,18 @@ none-before (t ∷ tests) more e = go (t .given) (none-before tests more) e
     go true rest e = e
     go false rest e = rest e
 
+-- What tests refuse, more tests refuse for the same reason.
+pub same-before : (tests more : List Test) → (first tests ≡ 0 → ⊥) → first (tests ++ more) ≡ first tests
+same-before [] more refuses = absurd (refuses refl)
+same-before (t ∷ tests) more refuses = go (t .given) (same-before tests more) refuses
+  where
+    go :
+        (given : Bool) → ((first tests ≡ 0 → ⊥) → first (tests ++ more) ≡ first tests) →
+        (cond given (t .number) (first tests) ≡ 0 → ⊥) →
+        cond given (t .number) (first (tests ++ more)) ≡ cond given (t .number) (first tests)
+    go true rest refuses = refl
+    go false rest refuses = rest refuses
+
 neither :
     (ragged short long : Bool) → first (test 1 ragged ∷ test 2 (short || long) ∷ []) ≡ 0 → (short ≡ false) × (long ≡ false)
 neither true short long e = (cc, cc)
