@@ -5,15 +5,14 @@ use mathlib.Core.List.{List}
 use Prim.Native.Nat.{ℕ, _+_, _%_, _^_, _<_}
 use native.Mathlib.Omega.{arith}
 use Rattle.machine.specs.declared.Machine.{Machine}
-use Rattle.machine.specs.Exceptions.{Situation}
-use Rattle.machine.specs.Calls.{refusedMemory, over}
+use Rattle.machine.specs.Situation.{Situation, over}
 use Rattle.machine.specs.Run.{run}
+use Rattle.machine.proofs.Calling.{mask-passed}
 use Rattle.division.specs.Division.{Premises, Completed, Values, values, Conclusion, RunsDivide, CallsDivide}
 use Rattle.division.proofs.Steps.{Steps, in-range}
 use Rattle.division.proofs.Results.{divides, complements}
 use Rattle.division.proofs.Status.{keeps-s, keeps-i, reads-t, reads-q, reads-m, keeps-mask}
 use Rattle.division.proofs.Registers.{length-registers, reads-low, reads-high, reads-other}
-use Rattle.division.proofs.Acceptance.{mask-passed}
 use Rattle.division.proofs.Instructions.{Place, before, state, here}
 use Rattle.division.proofs.Through.{runs-sum, ends, calls-are-runs}
 use Rattle.division.proofs.Walk.{AtEnd, through}
@@ -47,7 +46,7 @@ module _ {low high divisor : ℕ} {m : Machine} {memory : List ℕ} (p : Premise
           macl = refl;
           m = reads-m sr q 0 q-bit (omega arith);
           t = reads-t sr q 0 q-bit (omega arith);
-          mask = keeps-mask sr q 0 q-bit (omega arith) (mask-passed (refusedMemory memory) sr (p .accepted));
+          mask = keeps-mask sr q 0 q-bit (omega arith) (mask-passed m memory (p .accepted));
         }
 
     abbrev after : Values

@@ -10,10 +10,10 @@ use lib.Dec.{T, eqb, eqb→eq, lit<, lit≤}
 use lib.ListN.{length, getD, replicate}
 use Rattle.memory.specs.Access.{valueAt}
 use Rattle.decoder.proofs.Conjunction.{left, right}
-use Rattle.instructions.specs.State.{reg, qBit}
+use Rattle.instructions.specs.State.{control, reg, qBit}
 use Rattle.machine.specs.declared.Machine.{Machine}
 use Rattle.machine.specs.declared.Mode.the-variants.{Running}
-use Rattle.machine.specs.Calls.{over, startingAt}
+use Rattle.machine.specs.Situation.{over}
 use Rattle.division.specs.Division.{sequence, Words, Premises, runs}
 use Rattle.division.proofs.Division.{runs-divide}
 
@@ -30,7 +30,7 @@ memory = replicate 512 0 ++ bytes (sequence 1 2 3) ++ replicate 380 0
 
 machine : ℕ → ℕ → ℕ → Machine
 machine low high divisor =
-    record { r = 0 ∷ low ∷ high ∷ divisor ∷ replicate 12 0; control = startingAt 0x200; mode = Running }
+    record { r = 0 ∷ low ∷ high ∷ divisor ∷ replicate 12 0; control = control 0x200 0xf0 0 0 0 0 0; mode = Running }
 
 -- Words, as one computed test.
 standing : List ℕ → ℕ → List ℕ → Bool

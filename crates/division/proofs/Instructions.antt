@@ -25,13 +25,13 @@ use Rattle.instructions.specs.Shapes.{next}
 use Rattle.instructions.specs.Execute.{attempted, execute}
 use Rattle.machine.specs.declared.Machine.{Machine}
 use Rattle.machine.specs.declared.Mode.the-variants.{Running}
-use Rattle.machine.specs.Exceptions.{Situation, at}
+use Rattle.machine.specs.Situation.{Situation, at, over}
 use Rattle.machine.specs.Step.{step}
-use Rattle.machine.specs.Calls.{refusedMemory, over}
+use Rattle.machine.proofs.Calling.{memory-accepted}
+use Rattle.memory.proofs.Acceptance.{accepted-size}
 use Rattle.division.specs.Division.{div0uCode, rotclCode, div1Code, Premises, Values, values}
 use Rattle.division.proofs.Steps.{div1-q-bit, div1-t-bit}
 use Rattle.division.proofs.Status.{status, reads-t, reads-q, reads-m, writes-t, writes-qt}
-use Rattle.division.proofs.Acceptance.{memory-accepted, memory-bounded}
 use Rattle.division.proofs.Registers.{registers, reads-low, reads-high, reads-divisor, writes-low, writes-high, unwritten}
 
 means-div0u : meaning div0uCode ≡ NoOperand Div0u
@@ -106,7 +106,7 @@ module _ {low high divisor : ℕ} {m : Machine} {memory : List ℕ} (p : Premise
 
   next-pc : (pc : ℕ) → pc + 2 ≤ length memory → low32 (pc + 2) ≡ pc + 2
   next-pc pc inside =
-      omega (arith, memory-bounded memory (memory-accepted (refusedMemory memory) (m .control .sr) (p .accepted)))
+      omega (arith, accepted-size (length memory) (memory-accepted m memory (p .accepted)) .1)
 
   -- DIV0U leads from the machine as it was to the first place.
   abbrev pub first : Place

@@ -6,7 +6,6 @@ pub mod LowHalf
 pub mod Results
 pub mod Status
 pub mod Registers
-pub mod Acceptance
 pub mod Instructions
 pub mod Through
 pub mod Walk

@@ -6,21 +6,20 @@ use mathlib.Core.List.{List, [], _∷_}
 use Prim.Native.Nat.{ℕ, zero, suc, _+_}
 use native.Mathlib.Nat.{zero-add, suc-add}
 use lib.ListN.{length, replicate}
-use Rattle.machine.specs.declared.Refusal.the-variants.{Accepted}
-use Rattle.machine.specs.Exceptions.{Situation}
+use Rattle.machine.specs.Situation.{Situation, machineOf}
 use Rattle.machine.specs.Step.{halted, step}
 use Rattle.machine.specs.Run.{run}
-use Rattle.machine.specs.Calls.{refused, machineOf}
+use Rattle.machine.specs.Calls.{refused}
 use Rattle.machine.proofs.Runs.{run-suc, run-plus}
 use Rattle.division.specs.Division.{runs, sum, calls}
 
 abbrev pub Accepts : Situation → Type 0
-Accepts x = refused (machineOf x) (x .state .memory) ≡ Accepted
+Accepts x = refused (machineOf x) (x .state .memory) ≡ 0
 
 -- From x on the machine takes n steps, each before and after accepted, and then P holds.
 pub Through : (Situation → Type 0) → ℕ → Situation → Type 0
 Through P zero x = Accepts x × P x
-Through P (suc n) x = Accepts x × (halted (x .mode) ≡ false) × Through P n (step x)
+Through P (suc n) x = Accepts x × (halted x ≡ false) × Through P n (step x)
 
 pub runs-sum : (budgets : List ℕ) (x : Situation) → runs budgets x ≡ run (sum budgets) x
 unfolding run
@@ -33,7 +32,7 @@ module _ (P : Situation → Type 0) where
   there x accepts holds = (accepts, holds)
 
   pub onward :
-      (n : ℕ) (x y : Situation) → Accepts x → halted (x .mode) ≡ false → step x ≡ y → Through P n y → Through P (suc n) x
+      (n : ℕ) (x y : Situation) → Accepts x → halted x ≡ false → step x ≡ y → Through P n y → Through P (suc n) x
   unfolding Through
   onward n x y accepts awake leads through = (accepts, awake, rw leads through)
 
@@ -64,7 +63,7 @@ module _ (P : Situation → Type 0) where
         machine = machineOf (runs budgets x .after);
         memory = runs budgets x .after .state .memory;
         steps = runs budgets x .steps;
-        refusals = replicate (length budgets) Accepted;
+        refusals = replicate (length budgets) 0;
       }
   calls-are-runs [] x through = refl
   calls-are-runs (budget ∷ rest) x through =

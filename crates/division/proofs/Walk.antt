@@ -9,14 +9,13 @@ use borrow.Author.Tests.{eq-eqb}
 use Rattle.instructions.specs.State.{masked}
 use Rattle.machine.specs.declared.Machine.{Machine}
 use Rattle.machine.specs.declared.Mode.the-variants.{Running}
-use Rattle.machine.specs.Exceptions.{Situation, at}
-use Rattle.machine.specs.Calls.{refusedMemory, over}
+use Rattle.machine.specs.Situation.{Situation, at, machineOf, over}
+use Rattle.machine.proofs.Calling.{accepted, mask-passed, memory-accepted}
 use Rattle.division.specs.Division.{pairs, Words, Premises}
 use Rattle.division.proofs.Steps.{Steps, none, another, InRange, in-range, div1-t-bit}
 use Rattle.division.proofs.LowHalf as half
 use Rattle.division.proofs.LowHalf.{LowHalf}
 use Rattle.division.proofs.Status.{status, keeps-mask}
-use Rattle.division.proofs.Acceptance.{memory-accepted, mask-passed}
 use Rattle.division.proofs.Instructions.{Place, afterRotcl, afterDiv1, before, here, Sound, first, div0u-step, rotcl-step, div1-step}
 use Rattle.division.proofs.Through.{Accepts, Through, there, onward}
 
@@ -58,12 +57,8 @@ module _ {low high divisor : ℕ} {m : Machine} {memory : List ℕ} (p : Premise
 
   accepts : (x : Place) → x .q < 2 → x .t < 2 → Accepts (here p x)
   accepts x q-bit t-bit =
-      let sr = m .control .sr in
-      rw (
-        memory-accepted (refusedMemory memory) sr (p .accepted),
-        eq-eqb (masked (status sr (x .q) (x .t))) (status sr (x .q) (x .t))
-            (keeps-mask sr (x .q) (x .t) q-bit t-bit (mask-passed (refusedMemory memory) sr (p .accepted))),
-      )
+      accepted (machineOf (here p x)) memory (memory-accepted m memory (p .accepted))
+      (keeps-mask (m .control .sr) (x .q) (x .t) q-bit t-bit (mask-passed m memory (p .accepted)))
 
   abbrev Walks : ℕ → Type 0
   Walks n = (c taken answers : ℕ) (x : Place) → Standing n c taken answers x → Through AtEnd (count n) (here p x)

@@ -7,13 +7,12 @@ use lib.ListN.{length, getD, replicate}
 use Rattle.numbers.specs.Numbers.{low32}
 use Rattle.memory.specs.Access.{valueAt}
 use Rattle.instructions.specs.State.{State, reg, tBit, sBit, qBit, mBit, masked}
+use Rattle.machine.specs.declared.Answer.{Answer}
 use Rattle.machine.specs.declared.Machine.{Machine}
 use Rattle.machine.specs.declared.Mode.the-variants.{Running}
-use Rattle.machine.specs.declared.Refusal.{Refusal}
-use Rattle.machine.specs.declared.Refusal.the-variants.{Accepted}
-use Rattle.machine.specs.Exceptions.{Situation}
+use Rattle.machine.specs.Situation.{Situation, machineOf, over}
 use Rattle.machine.specs.Run.{Ran, still, run}
-use Rattle.machine.specs.Calls.{Called, Runs, refused, over, runCall}
+use Rattle.machine.specs.Calls.{Runs, refusalNumber, refused, runCall}
 
 -- DIV0U, ROTCL Rn and DIV1 Rm,Rn: document 000, sections 6.18, 6.46 and 6.19.
 abbrev pub div0uCode : ℕ
@@ -54,7 +53,7 @@ pub record Premises (low high divisor : ℕ) (m : Machine) (memory : List ℕ) :
   pub low-divisor : low ≡ divisor → ⊥
   pub high-divisor : high ≡ divisor → ⊥
   -- "no call is one to refuse": the first is not, and none of the others is by what follows
-  pub accepted : refused m memory ≡ Accepted
+  pub accepted : refused m memory ≡ 0
   -- "R0 to R15, [...] each 32 bits": the ranges of the public record's type
   pub sixteen : length (m .r) ≡ 16
   pub long : (n : ℕ) → getD (m .r) n 0 < 2 ^ 32
@@ -138,9 +137,9 @@ runs (budget ∷ rest) x =
     let later = runs rest (one .after) in
     record { after = later .after; steps = one .steps + later .steps }
 
--- The same as calls: machine and memory of each answer go into the next call.
+-- The same as calls: machine and memory of each answer go into the next call. The refusals are document 01's numbers, 0 for none.
 pub record Answers : Type 0 where
-  pub refusals : List Refusal
+  pub refusals : List ℕ
   pub machine : Machine
   pub memory : List ℕ
   pub steps : ℕ
@@ -149,12 +148,12 @@ abbrev pub calls : List ℕ → Machine → List ℕ → Answers
 calls [] m memory = record { refusals = []; machine = m; memory = memory; steps = 0 }
 calls (budget ∷ rest) m memory =
     let one = runCall budget m memory in
-    let later = calls rest (one .answer .machine) (one .memory) in
+    let later = calls rest (machineOf (one .ran .after)) (one .ran .after .state .memory) in
     record {
-      refusals = one .answer .refusal ∷ later .refusals;
+      refusals = one .refusal ∷ later .refusals;
       machine = later .machine;
       memory = later .memory;
-      steps = one .answer .steps + later .steps;
+      steps = one .ran .steps + later .steps;
     }
 
 -- The division theorem, of runs.
@@ -171,23 +170,28 @@ CallsDivide =
     (low high divisor : ℕ) (m : Machine) (memory : List ℕ) → Premises low high divisor m memory → (budgets : List ℕ) →
     sum budgets ≡ 66 →
     let end = calls budgets m memory in
-    (end .refusals ≡ replicate (length budgets) Accepted) ×
+    (end .refusals ≡ replicate (length budgets) 0) ×
     Conclusion low high divisor (over m memory) (over (end .machine) (end .memory)) (end .steps)
 
+-- An answer, with the memory that it leaves.
+pub record Reply : Type 0 where
+  pub answer : Answer
+  pub memory : List ℕ
+
 -- Replies that meet the promise of the public operation `run`, one for each budget, each call made with what the one before it left.
-abbrev pub Meets : List ℕ → Machine → List ℕ → List Called → Type 0
+abbrev pub Meets : List ℕ → Machine → List ℕ → List Reply → Type 0
 Meets [] m memory [] = Unit {0}
 Meets [] m memory (reply ∷ replies) = ⊥
 Meets (budget ∷ rest) m memory [] = ⊥
 Meets (budget ∷ rest) m memory (reply ∷ replies) =
     Runs budget m memory (reply .answer) (reply .memory) × Meets rest (reply .answer .machine) (reply .memory) replies
 
-abbrev pub gathered : Machine → List ℕ → List Called → Answers
+abbrev pub gathered : Machine → List ℕ → List Reply → Answers
 gathered m memory [] = record { refusals = []; machine = m; memory = memory; steps = 0 }
 gathered m memory (reply ∷ replies) =
     let later = gathered (reply .answer .machine) (reply .memory) replies in
     record {
-      refusals = reply .answer .refusal ∷ later .refusals;
+      refusals = refusalNumber (reply .answer .refusal) ∷ later .refusals;
       machine = later .machine;
       memory = later .memory;
       steps = reply .answer .steps + later .steps;
@@ -197,7 +201,7 @@ gathered m memory (reply ∷ replies) =
 abbrev pub PromisesDivide : Type 0
 PromisesDivide =
     (low high divisor : ℕ) (m : Machine) (memory : List ℕ) → Premises low high divisor m memory → (budgets : List ℕ) →
-    sum budgets ≡ 66 → (replies : List Called) → Meets budgets m memory replies →
+    sum budgets ≡ 66 → (replies : List Reply) → Meets budgets m memory replies →
     let end = gathered m memory replies in
-    (end .refusals ≡ replicate (length budgets) Accepted) ×
+    (end .refusals ≡ replicate (length budgets) 0) ×
     Conclusion low high divisor (over m memory) (over (end .machine) (end .memory)) (end .steps)

@@ -8,12 +8,13 @@ use lib.ListN.{replicate, getD}
 use Rattle.memory.specs.Access.{accessible, loaded, valueAt}
 use Rattle.decoder.specs.Code.{meaning, among}
 use Rattle.decoder.specs.Table.{table}
+use Rattle.instructions.specs.State.{control}
 use Rattle.instructions.specs.Execute.{attempted, execute}
 use Rattle.machine.specs.declared.Mode.the-variants.{Running, Asleep}
-use Rattle.machine.specs.declared.Refusal.the-variants.{Accepted}
 use Rattle.machine.specs.Step.{step}
 use Rattle.machine.specs.Run.{run, Ran}
-use Rattle.machine.specs.Calls.{runCall, started, over, startingAt}
+use Rattle.machine.specs.Situation.{over}
+use Rattle.machine.specs.Calls.{blank, runCall, start}
 
 -- 1,024 bytes: PC H'200 and R15 H'400 in the first two longs, and a program of at most 256 words at H'200.
 unfoldable pub image : List ℕ → List ℕ
@@ -24,20 +25,17 @@ unfoldable pub small : List ℕ
 small = image (0xe0 ∷ 5 ∷ 0 ∷ 0x1b ∷ replicate 508 0)
 
 pub runs-to-sleep :
-    runCall 1000000 (started small) small ≡
+    runCall 1000000 (start blank small) small ≡
     record {
-      answer =
+      refusal = 0;
+      ran =
           record {
-            refusal = Accepted;
-            machine =
-                record {
-                  r = 5 ∷ (replicate 14 0 ++ (0x400 ∷ []));
-                  control = record { pc = 0x204; sr = 0xf0; gbr = 0; vbr = 0; pr = 0; mach = 0; macl = 0 };
-                  mode = Asleep;
-                };
+            after =
+                over
+                (record { r = 5 ∷ (replicate 14 0 ++ (0x400 ∷ [])); control = control 0x204 0xf0 0 0 0 0 0; mode = Asleep })
+                small;
             steps = 2;
           };
-      memory = small;
     }
 unfolding small image run step meaning among table attempted execute accessible loaded valueAt
 runs-to-sleep = refl
@@ -61,7 +59,7 @@ divide high low divisor =
     outcome
     (run 66
     (over
-    (record { r = 0 ∷ low ∷ high ∷ divisor ∷ replicate 12 0; control = startingAt 0x200; mode = Running })
+    (record { r = 0 ∷ low ∷ high ∷ divisor ∷ replicate 12 0; control = control 0x200 0xf0 0 0 0 0 0; mode = Running })
     divider))
 
 -- "0:100 / 7 gives 14, H'FFFFFFFB, 1. 1:0 / 3 gives H'55555555, 1, 0. 6:H'FFFFFFFF / 7 gives H'FFFFFFFF, 6, 0. 0:100 / 0 gives

@@ -1,63 +1,71 @@
 -- The ways that the entry of an exception can go, each from the accesses that it makes.
 -- Assumes nothing.
-use mathlib.Core.Path.{_≡_, refl}
-use mathlib.Core.Bool.{Bool, true, false, _&&_, cond}
-use mathlib.Core.List.{List}
+use mathlib.Core.Path.{_≡_, refl, ap, _∙_}
+use mathlib.Core.Bool.{Bool, true, false, _||_, cond, not}
+use mathlib.Core.List.{List, [], _∷_}
 use Prim.Native.Nat.{ℕ}
-use Rattle.memory.specs.Access.{accessible, loaded, valueAt}
+use lib.Dec.{eqb}
+use Rattle.memory.specs.Access.{accessible, loaded, storedAt, valueAt, written}
+use Rattle.memory.specs.Lengths.{first, test}
 use Rattle.memory.specs.declared.Loaded.the-variants as loads
-use Rattle.instructions.specs.Shapes.{steppedBack}
+use Rattle.memory.proofs.Laws.{accessible-after-store, store-writes}
 use Rattle.instructions.specs.State.{State}
-use Rattle.machine.specs.Exceptions.{Situation, at, enter, entered, stopNumber, vector}
-use Rattle.machine.specs.declared.Mode.the-variants.{Stopped}
-use Rattle.machine.specs.declared.Stop.the-variants.{Push, Vector}
+use Rattle.machine.specs.Situation.{Situation, at, stopped}
+use Rattle.machine.specs.Exceptions.{belowR15, enter, entered, entryTests, pushed, vector}
+use Rattle.machine.specs.Longs.{modeValue}
 
-second-fails : (a : Bool) → a && false ≡ false
+second-fails : (a : Bool) → a || true ≡ true
 second-fails true = refl
 second-fails false = refl
 
-module _ (number saved : ℕ) (s : State) where
+module _ (number saved sr : ℕ) (s : State) where
   abbrev opens : ℕ → Bool
   opens address = accessible 4 (s .memory) address
 
-  pub first-push-fails : opens (steppedBack 4 15 s) ≡ false → enter number saved s ≡ at (Stopped Push) s
+  pub first-push-fails : opens (belowR15 4 s) ≡ false → enter number saved sr s ≡ at (stopped 1) s
   unfolding enter
   first-push-fails e = rw e
 
-  pub second-push-fails : opens (steppedBack 8 15 s) ≡ false → enter number saved s ≡ at (Stopped Push) s
+  pub second-push-fails : opens (belowR15 8 s) ≡ false → enter number saved sr s ≡ at (stopped 1) s
   unfolding enter
-  second-push-fails e = rw (e, second-fails (opens (steppedBack 4 15 s)))
+  second-push-fails e = rw (e, second-fails (not (opens (belowR15 4 s))))
 
   pub vector-fails :
-      opens (steppedBack 4 15 s) ≡ true → opens (steppedBack 8 15 s) ≡ true → opens (vector number s) ≡ false →
-      enter number saved s ≡ at (Stopped Vector) s
+      opens (belowR15 4 s) ≡ true → opens (belowR15 8 s) ≡ true → opens (vector number s) ≡ false →
+      enter number saved sr s ≡ at (stopped 2) s
   unfolding enter
   vector-fails a b e = rw (a, b, e)
 
   pub enters :
-      opens (steppedBack 4 15 s) ≡ true → opens (steppedBack 8 15 s) ≡ true → opens (vector number s) ≡ true →
-      enter number saved s ≡ entered number saved s
+      opens (belowR15 4 s) ≡ true → opens (belowR15 8 s) ≡ true → opens (vector number s) ≡ true →
+      enter number saved sr s ≡ entered number saved sr s
   unfolding enter
   enters a b e = rw (a, b, e)
 
-ways :
-    (pushes vector : Bool) (a b c : Situation) (k m n : ℕ) → stopNumber (a .mode) ≡ k → stopNumber (b .mode) ≡ m → stopNumber (c .mode) ≡ n →
-    stopNumber (cond pushes (cond vector a b) c .mode) ≡ cond pushes (cond vector k m) n
-ways true true a b c k m n p q r = p
-ways true false a b c k m n p q r = q
-ways false vector a b c k m n p q r = r
-
--- The stop reasons by document 01's numbers: 1 if a push fails, else 2 if the vector does, else none.
-pub entry-numbered :
-    (number saved : ℕ) (s : State) →
-    stopNumber (enter number saved s .mode) ≡
-    cond (accessible 4 (s .memory) (steppedBack 4 15 s) && accessible 4 (s .memory) (steppedBack 8 15 s))
-    (cond (accessible 4 (s .memory) (vector number s)) 0 2)
-    1
+-- The stop reasons by document 01's numbers.
+pub entry-numbered : (number saved sr : ℕ) (s : State) → modeValue (enter number saved sr s .mode) ≡ first (entryTests number s)
 unfolding enter
-entry-numbered number saved s =
-    ways (accessible 4 (s .memory) (steppedBack 4 15 s) && accessible 4 (s .memory) (steppedBack 8 15 s))
-    (accessible 4 (s .memory) (vector number s)) (entered number saved s) (at (Stopped Vector) s) (at (Stopped Push) s) 0 2 1 refl refl refl
+entry-numbered number saved sr s =
+    go (not (accessible 4 (s .memory) (belowR15 4 s)) || not (accessible 4 (s .memory) (belowR15 8 s)))
+    (not (accessible 4 (s .memory) (vector number s)))
+  where
+    go :
+        (push vector : Bool) →
+        let reason = first (test 1 push ∷ test 2 vector ∷ []) in
+        modeValue (cond (eqb reason 0) (entered number saved sr s) (at (stopped reason) s) .mode) ≡ reason
+    go true vector = refl
+    go false true = refl
+    go false false = refl
+
+-- The two stores of an entry, where both can be made.
+pub pushes :
+    (saved : ℕ) (s : State) {first second : List ℕ} → accessible 4 (s .memory) (belowR15 4 s) ≡ true →
+    accessible 4 (s .memory) (belowR15 8 s) ≡ true → first ≡ storedAt 4 (s .memory) (belowR15 4 s) (s .control .sr) →
+    second ≡ storedAt 4 first (belowR15 8 s) saved → second ≡ pushed saved s
+pushes saved s {first} {second} a b e f =
+    let sr-pushed : first ≡ written 4 (s .memory) (belowR15 4 s) (s .control .sr) = e ∙ store-writes 4 _ _ _ a in
+    let opens : accessible 4 first (belowR15 8 s) ≡ true = rw (e, accessible-after-store 4 _ _ _ 4 _) b in
+    f ∙ store-writes 4 first (belowR15 8 s) saved opens ∙ ap (λ (m : List ℕ). written 4 m (belowR15 8 s) saved) sr-pushed
 
 given-value : (test : Bool) (n v : ℕ) → test ≡ true → cond test (loads.Value n) loads.Fault ≡ loads.Value v → v ≡ n
 given-value true n v can given = cc

@@ -5,7 +5,7 @@ use mathlib.Core.Bool.{true, false}
 use Prim.Native.Nat.{ℕ, _+_, _-_, _<_, _≤_}
 use native.Mathlib.Omega.{arith}
 use lib.ListN.{length}
-use Rattle.machine.specs.Exceptions.{Situation}
+use Rattle.machine.specs.Situation.{Situation}
 use Rattle.machine.specs.Run.{Ran, run, still, oneMore}
 use Rattle.machine.specs.Step.{halted, step}
 use Rattle.machine.proofs.Ranges.{step-keeps-length}
@@ -23,12 +23,12 @@ pub begins : (budget : ℕ) (start : Situation) → Going budget start 0 start
 unfolding run
 begins budget start = record { ran = refl; within = omega arith; sized = refl }
 
-one-step : (x : Situation) → halted (x .mode) ≡ false → run 1 x ≡ having 1 (step x)
+one-step : (x : Situation) → halted x ≡ false → run 1 x ≡ having 1 (step x)
 unfolding run
 one-step x runs = rw runs
 
 module _ (budget : ℕ) (start : Situation) (taken : ℕ) (x : Situation) (going : Going budget start taken x) where
-  pub goes-on : (y : Situation) → taken < budget → halted (x .mode) ≡ false → step x ≡ y → Going budget start (taken + 1) y
+  pub goes-on : (y : Situation) → taken < budget → halted x ≡ false → step x ≡ y → Going budget start (taken + 1) y
   goes-on y below runs e = record {
     ran = run-plus taken 1 start ∙ rw (going .ran, one-step x runs, e);
     within = omega arith;
@@ -40,7 +40,7 @@ module _ (budget : ℕ) (start : Situation) (taken : ℕ) (x : Situation) (going
       let same : budget ≡ taken = omega (arith, going .within) in
       rw same (going .ran)
 
-  pub ends-halted : halted (x .mode) ≡ true → run budget start ≡ having taken x
+  pub ends-halted : halted x ≡ true → run budget start ≡ having taken x
   ends-halted halts =
       let split : budget ≡ taken + (budget - taken) = omega (arith, going .within) in
       let none : taken + 0 ≡ taken = omega arith in

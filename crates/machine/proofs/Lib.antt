@@ -2,6 +2,7 @@ pub mod Calling
 pub mod Entries
 pub mod Going
 pub mod Invariants
+pub mod Longs
 pub mod Ranges
 pub mod Reasons
 pub mod Runs

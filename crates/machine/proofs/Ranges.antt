@@ -1,35 +1,35 @@
 -- The ranges of the machine's record (document 01, "State") are kept by every step and every run, and so is the memory's length: what an
--- instruction leaves is in range, an address from which the PC or a target comes is below 2^32, and a push is a store.
+-- instruction leaves is in range, an address from which the PC or a target comes is below 2^32, and a push writes bytes.
 -- Assumes nothing.
 use mathlib.Core.Path.{_≡_, refl, _∙_}
+use mathlib.Core.Bool.{Bool, true, false, cond}
 use mathlib.Core.List.{List}
 use Prim.Native.Nat.{ℕ, zero, suc, _^_, _<_}
 use native.Mathlib.Omega.{arith}
+use lib.Dec.{eqb}
 use lib.ListN.{length, replicate}
-use Rattle.memory.specs.Access.{loaded, storedAt}
+use Rattle.memory.specs.Access.{loaded, written}
+use Rattle.memory.specs.Lengths.{refusedLength}
 use Rattle.memory.specs.declared.Loaded.{Loaded}
 use Rattle.memory.specs.declared.Loaded.the-variants as loads
-use Rattle.memory.proofs.Bytes.{Bytes, value-small}
-use Rattle.memory.proofs.Laws.{store-keeps-bytes, store-keeps-length}
+use Rattle.memory.proofs.Bytes.{Bytes, length-written, value-small, written-bytes}
 use Rattle.decoder.specs.Code.{meaning}
 use Rattle.decoder.proofs.Table.{fields-within}
 use Rattle.instructions.specs.Execute.{attempted}
-use Rattle.instructions.specs.Shapes.{steppedBack}
 use Rattle.instructions.specs.State.{State, changed, withPc}
 use Rattle.instructions.specs.declared.control.Flow.{Flow}
 use Rattle.instructions.specs.declared.control.Flow.the-variants.{Next, Jump, Delay, Sleep, Trap, Fault, Illegal}
 use Rattle.instructions.proofs.Bounds.{low32-below}
 use Rattle.instructions.proofs.Effects.{attempt-keeps-length}
 use Rattle.instructions.proofs.Ranges.{StateInRange, TargetInRange, Below, register-changed, control-changed, memory-changed, pc-changed, attempt-in-range}
-use Rattle.machine.specs.Exceptions.{Situation, at, enter, pushed, vector, savedPc, addressError}
-use Rattle.machine.specs.Calls.{Called, blank, over, calling, runCall, stepCall, refused, refusedMemory, startingAt, resetBy, resetCall}
-use Rattle.machine.specs.Run.{Ran, run, stepped}
+use Rattle.machine.specs.Situation.{Situation, at, over}
+use Rattle.machine.specs.Exceptions.{belowR15, pushed, raise, vector, savedPc, addressError}
+use Rattle.machine.specs.Calls.{Called, blank, calling, refused, resetCall, runCall, start, stepCall}
+use Rattle.machine.specs.Run.{Ran, run, stepped, still}
 use Rattle.machine.specs.Step.{step, halted, inSlot, illegalNumber, nextPc, delayed, settle, fetched}
 use Rattle.machine.specs.declared.Machine.{Machine}
 use Rattle.machine.specs.declared.Mode.{Mode}
 use Rattle.machine.specs.declared.Mode.the-variants.{Running, Slot, Asleep, Stopped}
-use Rattle.machine.specs.declared.Refusal.{Refusal}
-use Rattle.machine.specs.declared.Refusal.the-variants.{Accepted, Ragged, Size, Status}
 use Rattle.machine.proofs.Invariants.{either, by-entry, run-keeps}
 
 -- The target of a slot.
@@ -45,17 +45,17 @@ pub record InRange (x : Situation) : Type 0 where
 
 pushed-bytes : (saved : ℕ) (s : State) → Bytes (s .memory) → Bytes (pushed saved s)
 pushed-bytes saved s bytes =
-    store-keeps-bytes 4 (storedAt 4 (s .memory) (steppedBack 4 15 s) (s .control .sr)) (steppedBack 8 15 s) saved
-    (store-keeps-bytes 4 (s .memory) (steppedBack 4 15 s) (s .control .sr) bytes)
+    written-bytes 4 (written 4 (s .memory) (belowR15 4 s) (s .control .sr)) (belowR15 8 s) saved
+    (written-bytes 4 (s .memory) (belowR15 4 s) (s .control .sr) bytes)
 
 pushed-length : (saved : ℕ) (s : State) → length (pushed saved s) ≡ length (s .memory)
 pushed-length saved s =
-    store-keeps-length 4 (storedAt 4 (s .memory) (steppedBack 4 15 s) (s .control .sr)) (steppedBack 8 15 s) saved
-    ∙ store-keeps-length 4 (s .memory) (steppedBack 4 15 s) (s .control .sr)
+    length-written 4 (written 4 (s .memory) (belowR15 4 s) (s .control .sr)) (belowR15 8 s) saved
+    ∙ length-written 4 (s .memory) (belowR15 4 s) (s .control .sr)
 
-enters : {s : State} → StateInRange s → (number saved : ℕ) → InRange (enter number saved s)
+enters : {s : State} → StateInRange s → (number saved : ℕ) → InRange (raise number saved s)
 enters {s} r number saved =
-    by-entry InRange number saved s
+    by-entry InRange number saved (s .control .sr) s
     (record {
       state =
           control-changed
@@ -104,7 +104,7 @@ fetches mode loads.Fault waiting r = enters r addressError _
 pub step-keeps : (x : Situation) → InRange x → InRange (step x)
 unfolding step
 step-keeps x r =
-    either InRange (halted (x .mode)) x _ r
+    either InRange (halted x) x _ r
     (fetches (x .mode) (loaded 2 (x .state .memory) (x .state .control .pc)) (r .mode) (r .state))
 
 pub run-in-range : (n : ℕ) (x : Situation) → InRange x → InRange (run n x .after)
@@ -116,65 +116,75 @@ zeros zero i = omega arith
 zeros (suc n) zero = omega arith
 zeros (suc n) (suc i) = zeros n i
 
-cleared :
-    (memory : List ℕ) {pc : ℕ} → pc < 2 ^ 32 → Bytes memory →
-    StateInRange (record { registers = replicate 16 0; control = startingAt pc; memory = memory })
-cleared memory below bytes =
+blanked : (memory : List ℕ) → Bytes memory → InRange (over blank memory)
+blanked memory bytes =
     record {
-      sixteen = refl;
-      registers = zeros 16;
-      control =
+      state =
           record {
-            pc = below;
-            sr = refl;
-            gbr = omega arith;
-            vbr = omega arith;
-            pr = omega arith;
-            mach = omega arith;
-            macl = omega arith;
+            sixteen = refl;
+            registers = zeros 16;
+            control =
+                record {
+                  pc = omega arith;
+                  sr = refl;
+                  gbr = omega arith;
+                  vbr = omega arith;
+                  pr = omega arith;
+                  mach = omega arith;
+                  macl = omega arith;
+                };
+            memory = bytes;
           };
-      memory = bytes;
+      mode = tt;
     }
 
-pub reset-in-range : (memory : List ℕ) → Bytes memory → InRange (over (resetCall memory .machine) memory)
-reset-in-range memory bytes = go (refusedMemory memory)
-  where
-    blanked : InRange (over blank memory)
-    blanked = record { state = cleared memory (omega arith) bytes; mode = tt }
-
-    go : (why : Refusal) → InRange (over (resetBy why memory .machine) memory)
-    go Accepted =
-        record {
-          state =
-              register-changed (cleared memory (value-small 4 memory 0 bytes) bytes) 15 (value-small 4 memory 4 bytes);
-          mode = tt;
-        }
-    go Ragged = blanked
-    go Size = blanked
-    go Status = blanked
+starts : (m : Machine) (memory : List ℕ) → InRange (over m memory) → InRange (over (start m memory) memory)
+starts m memory r =
+    let bytes = r .state .memory in
+    let control = r .state .control in
+    record {
+      state =
+          control-changed (register-changed (r .state) 15 (value-small 4 memory 4 bytes))
+          (record {
+            pc = value-small 4 memory 0 bytes;
+            sr = refl;
+            gbr = control .gbr;
+            vbr = omega arith;
+            pr = control .pr;
+            mach = control .mach;
+            macl = control .macl;
+          });
+      mode = tt;
+    }
 
 abbrev CalledInRange : Called → Type 0
-CalledInRange c = InRange (over (c .answer .machine) (c .memory))
+CalledInRange c = InRange (c .ran .after)
+
+calls : (number : ℕ) (done : Ran) (x : Situation) → InRange (done .after) → InRange x → CalledInRange (calling number done x)
+calls number done x after given = go (eqb number 0)
+  where
+    go : (t : Bool) → InRange (cond t done (still x) .after)
+    go true = after
+    go false = given
+
+pub reset-in-range : (memory : List ℕ) → Bytes memory → CalledInRange (resetCall memory)
+reset-in-range memory bytes =
+    let given = blanked memory bytes in
+    calls (refusedLength (length memory)) _ _ (starts blank memory given) given
 
 module _ (m : Machine) (memory : List ℕ) (r : InRange (over m memory)) where
-  calls : (why : Refusal) (x : Ran) → InRange (x .after) → CalledInRange (calling why x m memory)
-  calls Accepted x done = done
-  calls Ragged x done = r
-  calls Size x done = r
-  calls Status x done = r
-
   pub run-call-in-range : (budget : ℕ) → CalledInRange (runCall budget m memory)
-  run-call-in-range budget = calls (refused m memory) (run budget (over m memory)) (run-in-range budget (over m memory) r)
+  run-call-in-range budget = calls (refused m memory) _ _ (run-in-range budget (over m memory) r) r
 
   pub step-call-in-range : CalledInRange (stepCall m memory)
-  step-call-in-range = calls (refused m memory) (stepped (over m memory)) (step-keeps (over m memory) r)
+  step-call-in-range = calls (refused m memory) (stepped (over m memory)) (over m memory) (step-keeps (over m memory) r) r
 
 -- The memory's length, in range or not.
 abbrev Sized : ℕ → Situation → Type 0
 Sized size x = length (x .state .memory) ≡ size
 
-entry-sized : (number saved : ℕ) (s : State) → Sized (length (s .memory)) (enter number saved s)
-entry-sized number saved s = by-entry (Sized (length (s .memory))) number saved s (pushed-length saved s) refl refl
+entry-sized : (number saved : ℕ) (s : State) → Sized (length (s .memory)) (raise number saved s)
+entry-sized number saved s = by-entry (Sized (length (s .memory))) number saved (s .control .sr) s (pushed-length saved s) refl refl
 
 delay-sized :
     (mode : Mode) (target : ℕ) (before after : State) → length (after .memory) ≡ length (before .memory) →
@@ -204,7 +214,7 @@ fetch-sized mode loads.Fault s = entry-sized addressError (savedPc mode (s .cont
 pub step-keeps-length : (x : Situation) → length (step x .state .memory) ≡ length (x .state .memory)
 unfolding step
 step-keeps-length x =
-    either (Sized (length (x .state .memory))) (halted (x .mode)) x _ refl
+    either (Sized (length (x .state .memory))) (halted x) x _ refl
     (fetch-sized (x .mode) (loaded 2 (x .state .memory) (x .state .control .pc)) (x .state))
 
 pub run-keeps-length : (n : ℕ) (x : Situation) → length (run n x .after .state .memory) ≡ length (x .state .memory)

@@ -12,7 +12,8 @@ use Rattle.instructions.specs.State.{State}
 use Rattle.instructions.specs.declared.control.Flow.{Flow}
 use Rattle.instructions.specs.declared.control.Flow.the-variants.{Next, Jump, Delay, Sleep, Trap, Fault, Illegal}
 use Rattle.instructions.proofs.Effects.{Straight, no-branch-in-slot}
-use Rattle.machine.specs.Exceptions.{Situation, enter, savedPc, addressError}
+use Rattle.machine.specs.Situation.{Situation}
+use Rattle.machine.specs.Exceptions.{raise, savedPc, addressError}
 use Rattle.machine.specs.Run.{run}
 use Rattle.machine.specs.Step.{step, halted, inSlot, illegalNumber, nextPc, settle, fetched}
 use Rattle.machine.specs.declared.Mode.{Mode}
@@ -32,8 +33,8 @@ Other (Stopped Branch) = ⊥
 abbrev Elsewhere : Situation → Type 0
 Elsewhere x = Other (x .mode)
 
-enters : (number saved : ℕ) (s : State) → Elsewhere (enter number saved s)
-enters number saved s = by-entry Elsewhere number saved s tt tt tt
+enters : (number saved : ℕ) (s : State) → Elsewhere (raise number saved s)
+enters number saved s = by-entry Elsewhere number saved (s .control .sr) s tt tt tt
 
 -- In a slot, no delayed branch.
 abbrev StraightInSlot : Mode → Flow → Type 0
@@ -76,7 +77,7 @@ fetches mode loads.Fault s other = enters addressError (savedPc mode (s .control
 steps : (x : Situation) → Elsewhere x → Elsewhere (step x)
 unfolding step
 steps x other =
-    either Elsewhere (halted (x .mode)) x _ other
+    either Elsewhere (halted x) x _ other
     (fetches (x .mode) (loaded 2 (x .state .memory) (x .state .control .pc)) (x .state) other)
 
 -- A mode that came to be the one stopped for reason 3 was it already.

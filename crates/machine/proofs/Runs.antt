@@ -4,7 +4,7 @@ use mathlib.Core.Path.{_≡_, refl}
 use mathlib.Core.Bool.{Bool, true, false, cond}
 use Prim.Native.Nat.{ℕ, zero, suc, _+_}
 use native.Mathlib.Nat.{zero-add, suc-add}
-use Rattle.machine.specs.Exceptions.{Situation}
+use Rattle.machine.specs.Situation.{Situation}
 use Rattle.machine.specs.Step.{halted, step}
 use Rattle.machine.specs.Run.{Ran, still, oneMore, run}
 
@@ -12,22 +12,22 @@ use Rattle.machine.specs.Run.{Ran, still, oneMore, run}
 abbrev pub followed : Ran → Ran → Ran
 followed first later = record { after = later .after; steps = first .steps + later .steps }
 
-pub run-halted : (n : ℕ) (x : Situation) → halted (x .mode) ≡ true → run n x ≡ still x
+pub run-halted : (n : ℕ) (x : Situation) → halted x ≡ true → run n x ≡ still x
 unfolding run
 run-halted zero x e = refl
 run-halted (suc n) x e = rw e
 
-pub run-suc : (n : ℕ) (x : Situation) → halted (x .mode) ≡ false → run (suc n) x ≡ oneMore (run n (step x))
+pub run-suc : (n : ℕ) (x : Situation) → halted x ≡ false → run (suc n) x ≡ oneMore (run n (step x))
 unfolding run
 run-suc n x e = rw e
 
 pub run-plus : (a b : ℕ) (x : Situation) → run (a + b) x ≡ followed (run a x) (run b (run a x .after))
 unfolding run
 run-plus zero b x = rw (zero-add b, zero-add (run b x .steps))
-run-plus (suc a) b x = rw (suc-add a b) (go (halted (x .mode)) refl (run-plus a b (step x)))
+run-plus (suc a) b x = rw (suc-add a b) (go (halted x) refl (run-plus a b (step x)))
   where
     go :
-        (h : Bool) → halted (x .mode) ≡ h →
+        (h : Bool) → halted x ≡ h →
         run (a + b) (step x) ≡ followed (run a (step x)) (run b (run a (step x) .after)) →
         cond h (still x) (oneMore (run (a + b) (step x))) ≡
         followed (cond h (still x) (oneMore (run a (step x)))) (run b (cond h (still x) (oneMore (run a (step x))) .after))

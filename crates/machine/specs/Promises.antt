@@ -1,4 +1,5 @@
--- What the functions below the calls promise: the definition's entry, settling and step, over the registers that they are lent.
+-- What the functions below the calls promise: the definition's entry, settling and step, over the registers that they are lent, and its
+-- run.
 use mathlib.Core.Path.{_≡_}
 use mathlib.Core.List.{List}
 use Prim.Native.Nat.{ℕ}
@@ -6,16 +7,21 @@ use Rattle.instructions.specs.Promises.{state}
 use Rattle.instructions.specs.State.{control}
 use Rattle.instructions.specs.declared.control.Flow.{Flow}
 use Rattle.instructions.specs.declared.control.Flow.the-variants.{Next, Jump, Delay, Sleep, Trap, Fault, Illegal}
+use Rattle.machine.specs.declared.Answer.{Answer}
+use Rattle.machine.specs.declared.Machine.{Machine}
 use Rattle.machine.specs.declared.Mode.{Mode}
 use Rattle.machine.specs.declared.Mode.the-variants.{Running, Slot, Asleep, Stopped}
-use Rattle.machine.specs.Exceptions.{at, enter}
+use Rattle.machine.specs.Situation.{at, over}
+use Rattle.machine.specs.Exceptions.{raise}
 use Rattle.machine.specs.Step.{settle, step}
+use Rattle.machine.specs.Run.{run}
+use Rattle.machine.specs.Calls.{called}
 
 abbrev pub Enters :
     (number saved pc sr vbr : ℕ) (r memory : List ℕ) (mode : Mode) (pc' : ℕ) (r' memory' : List ℕ) → Type 0
 Enters number saved pc sr vbr r memory mode pc' r' memory' =
     (gbr pr mach macl : ℕ) →
-    enter number saved (state r (control pc sr gbr vbr pr mach macl) memory) ≡
+    raise number saved (state r (control pc sr gbr vbr pr mach macl) memory) ≡
     at mode (state r' (control pc' sr gbr vbr pr mach macl) memory')
 
 -- A delayed branch comes from a running machine alone: in a slot it is illegal.
@@ -44,3 +50,7 @@ abbrev pub Advances :
 Advances mode pc sr gbr vbr pr mach macl r memory mode' pc' sr' gbr' vbr' pr' mach' macl' r' memory' =
     step (at mode (state r (control pc sr gbr vbr pr mach macl) memory)) ≡
     at mode' (state r' (control pc' sr' gbr' vbr' pr' mach' macl') memory')
+
+-- A run that is not refused.
+abbrev pub RunsAccepted : ℕ → Machine → List ℕ → Answer → List ℕ → Type 0
+RunsAccepted budget m memory answer after = called answer after ≡ record { refusal = 0; ran = run budget (over m memory) }

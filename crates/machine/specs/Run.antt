@@ -1,7 +1,7 @@
 -- A run: document 01, "Run". It takes exactly its budget of steps, fewer only when the machine sleeps or stops.
 use mathlib.Core.Bool.{cond}
 use Prim.Native.Nat.{ℕ, zero, suc}
-use Rattle.machine.specs.Exceptions.{Situation}
+use Rattle.machine.specs.Situation.{Situation}
 use Rattle.machine.specs.Step.{halted, step}
 
 pub record Ran : Type 0 where
@@ -17,8 +17,8 @@ oneMore later = record { after = later .after; steps = suc (later .steps) }
 
 -- A step, and whether it counts.
 abbrev pub stepped : Situation → Ran
-stepped x = record { after = step x; steps = cond (halted (x .mode)) 0 1 }
+stepped x = record { after = step x; steps = cond (halted x) 0 1 }
 
 unfoldable pub run : ℕ → Situation → Ran
 run zero x = still x
-run (suc budget) x = cond (halted (x .mode)) (still x) (oneMore (run budget (step x)))
+run (suc budget) x = cond (halted x) (still x) (oneMore (run budget (step x)))

@@ -12,14 +12,17 @@ use Rattle.instructions.specs.Shapes.{Effect}
 use Rattle.instructions.specs.Execute.{attempted}
 use Rattle.instructions.specs.declared.control.Flow.{Flow}
 use Rattle.instructions.specs.declared.control.Flow.the-variants.{Next, Jump, Delay, Sleep, Trap, Fault, Illegal}
-use Rattle.machine.specs.declared.Stop.the-variants.{Branch}
 use Rattle.machine.specs.declared.Mode.{Mode}
 use Rattle.machine.specs.declared.Mode.the-variants.{Running, Slot, Asleep, Stopped}
-use Rattle.machine.specs.Exceptions.{Situation, at, savedPc, enter, generalIllegal, illegalSlot, addressError}
+use Rattle.machine.specs.Situation.{Situation, at, stopped}
+use Rattle.machine.specs.Exceptions.{savedPc, raise, generalIllegal, illegalSlot, addressError}
 
--- The next word, or in a slot the target.
+-- The next word; in a slot the target.
+abbrev pub nextWord : State → ℕ
+nextWord s = low32 (s .control .pc + 2)
+
 abbrev pub nextPc : Mode → State → ℕ
-nextPc mode s = savedPc mode (low32 (s .control .pc + 2))
+nextPc mode s = savedPc mode (nextWord s)
 
 -- Item 3, "In a slot: an undefined word, or one that rewrites the PC, is an illegal slot. Not in a slot: an undefined word is a general
 -- illegal instruction."
@@ -35,8 +38,8 @@ illegalNumber mode = cond (inSlot mode) illegalSlot generalIllegal
 -- A taken delayed branch: "PC moves on by 2 and the mode becomes "in a slot" with the target"; "reason 3: a delayed branch is taken
 -- while another's target still waits"
 abbrev pub delayed : Mode → ℕ → State → State → Situation
-delayed Running target before after = at (Slot target) (changed (withPc (low32 (after .control .pc + 2))) after)
-delayed (Slot waiting) target before after = at (Stopped Branch) before
+delayed Running target before after = at (Slot target) (changed (withPc (nextWord after)) after)
+delayed (Slot waiting) target before after = at (stopped 3) before
 delayed Asleep target before after = at Asleep before
 delayed (Stopped reason) target before after = at (Stopped reason) before
 
@@ -46,9 +49,9 @@ settle Next mode before after = at Running (changed (withPc (nextPc mode before)
 settle (Jump target) mode before after = at Running (changed (withPc target) after)
 settle (Delay target) mode before after = delayed mode target before after
 settle Sleep mode before after = at Asleep (changed (withPc (nextPc mode before)) after)
-settle (Trap number) mode before after = enter number (nextPc mode before) before
-settle Fault mode before after = enter addressError (nextPc mode before) before
-settle Illegal mode before after = enter (illegalNumber mode) (savedPc mode (before .control .pc)) before
+settle (Trap number) mode before after = raise number (nextPc mode before) before
+settle Fault mode before after = raise addressError (nextPc mode before) before
+settle Illegal mode before after = raise (illegalNumber mode) (savedPc mode (before .control .pc)) before
 
 abbrev pub performed : Mode → State → Effect → Situation
 performed mode s e = settle (e .flow) mode s (e .after)
@@ -60,14 +63,17 @@ decoded mode x s = performed mode s (attempted (inSlot mode) x s)
 -- Item 2, "Fetch the word at PC. PC odd or the word outside: address error."
 abbrev pub fetched : Mode → Loaded → State → Situation
 fetched mode (loads.Value w) s = decoded mode (meaning w) s
-fetched mode loads.Fault s = enter addressError (savedPc mode (s .control .pc)) s
+fetched mode loads.Fault s = raise addressError (savedPc mode (s .control .pc)) s
 
 -- Item 1, "Asleep or stopped: nothing happens and no step is counted."
-abbrev pub halted : Mode → Bool
-halted Running = false
-halted (Slot target) = false
-halted Asleep = true
-halted (Stopped reason) = true
+abbrev pub asleepOrStopped : Mode → Bool
+asleepOrStopped Running = false
+asleepOrStopped (Slot target) = false
+asleepOrStopped Asleep = true
+asleepOrStopped (Stopped reason) = true
+
+abbrev pub halted : Situation → Bool
+halted x = asleepOrStopped (x .mode)
 
 unfoldable pub step : Situation → Situation
-step x = cond (halted (x .mode)) x (fetched (x .mode) (loaded 2 (x .state .memory) (x .state .control .pc)) (x .state))
+step x = cond (halted x) x (fetched (x .mode) (loaded 2 (x .state .memory) (x .state .control .pc)) (x .state))

@@ -8,8 +8,8 @@ use crate::exceptions;
 use crate::run_loop;
 use instructions::Control;
 ghost use mathlib.Core.Path.{_≡_};
-ghost use Prim.Native.Nat.{ℕ};
 ghost use lib.ListN.{length};
+ghost use Rattle.memory.specs.Lengths.{refusedLength};
 ghost use Rattle.machine.specs.Calls as Calls;
 
 impl Machine {
@@ -17,53 +17,52 @@ impl Machine {
     pub fn blank() -> Self
         ensures { λ m. ⌜ m ≡ Calls.blank ⌝ }
     {
+        let control = Control {
+            pc: 0,
+            sr: 0xf0,
+            gbr: 0,
+            vbr: 0,
+            pr: 0,
+            mach: 0,
+            macl: 0,
+        };
         Machine {
             r: [0; 16],
-            control: starting_at(0),
+            control,
             mode: Mode::Stopped(Stop::Vector),
         }
-    }
-}
-
-fn starting_at(pc: u32) -> Control
-    ensures { λ c. ⌜ c ≡ Calls.startingAt pc ⌝ }
-{
-    Control {
-        pc,
-        sr: 0xf0,
-        gbr: 0,
-        vbr: 0,
-        pr: 0,
-        mach: 0,
-        macl: 0,
     }
 }
 
 pub fn reset(memory: &[u8]) -> Answer
     ensures { λ a. ⌜ Calls.Resets (now (memory .entry)) a ⌝ }
 {
+    let blank = Machine::blank();
     let refusal = refused_memory(memory);
     match refusal {
         Refusal::Accepted => Answer {
             refusal,
-            machine: started(memory),
+            machine: start(blank, memory),
             steps: 0,
         },
         _ => Answer {
             refusal,
-            machine: Machine::blank(),
+            machine: blank,
             steps: 0,
         },
     }
 }
 
-fn started(memory: &[u8]) -> Machine
-    requires { ⌜ Calls.refusedMemory (now memory) ≡ Refusal.Accepted ⌝ }
-    ensures { λ m. ⌜ m ≡ Calls.started (now (memory .entry)) ⌝ }
+fn start(machine: Machine, memory: &[u8]) -> Machine
+    requires { ⌜ refusedLength (length (now memory)) ≡ 0 ⌝ }
+    ensures { λ m. ⌜ m ≡ Calls.start machine (now (memory .entry)) ⌝ }
 {
-    let mut r = [0; 16];
+    let mut r = machine.r;
     r[15] = exceptions::long_at(memory, 4);
-    let control = starting_at(exceptions::long_at(memory, 0));
+    let mut control = machine.control;
+    control.pc = exceptions::long_at(memory, 0);
+    control.sr = 0xf0;
+    control.vbr = 0;
     Machine {
         r,
         control,
@@ -80,7 +79,7 @@ pub fn step(machine: Machine, memory: &mut [u8]) -> Answer
 pub fn run(machine: Machine, memory: &mut [u8], budget: u32) -> Answer
     ensures { λ a. ⌜ Calls.Runs budget machine (now (memory .entry)) a (now (memory .exit)) ⌝ }
 {
-    let refusal = refused(machine.control.sr, memory);
+    let refusal = refused(machine, memory);
     match refusal {
         Refusal::Accepted => run_loop::run_accepted(machine, memory, budget),
         _ => Answer {
@@ -91,37 +90,28 @@ pub fn run(machine: Machine, memory: &mut [u8], budget: u32) -> Answer
     }
 }
 
-fn refused(sr: u32, memory: &[u8]) -> Refusal
-    ensures { λ w. ⌜ w ≡ Calls.refusedState (Calls.refusedMemory (now (memory .entry))) sr ⌝ }
+fn refused(machine: Machine, memory: &[u8]) -> Refusal
+    ensures { λ w. ⌜ Calls.refusalNumber w ≡ Calls.refused machine (now (memory .entry)) ⌝ }
 {
     let why = refused_memory(memory);
+    let sr = machine.control.sr;
     match why {
-        Refusal::Accepted => refused_status(sr),
+        Refusal::Accepted => {
+            if sr & Control::SR_MASK == sr {
+                return Refusal::Accepted;
+            }
+            Refusal::Status
+        }
         _ => why,
     }
 }
 
 fn refused_memory(memory: &[u8]) -> Refusal
-    ensures { λ w. ⌜ w ≡ Calls.refusedMemory (now (memory .entry)) ⌝ }
+    ensures { λ w. ⌜ Calls.refusalNumber w ≡ refusedLength (length (now (memory .entry))) ⌝ }
 {
-    let length = memory.len();
-    if length % 4 != 0 {
-        return Refusal::Ragged;
+    match memory::refused_length(memory.len()) {
+        0 => Refusal::Accepted,
+        1 => Refusal::Ragged,
+        _ => Refusal::Size,
     }
-    if length < 1024 {
-        return Refusal::Size;
-    }
-    if length > 16777216 {
-        return Refusal::Size;
-    }
-    Refusal::Accepted
-}
-
-fn refused_status(sr: u32) -> Refusal
-    ensures { λ w. ⌜ w ≡ Calls.refusedStatus sr ⌝ }
-{
-    if sr & Control::SR_MASK == sr {
-        return Refusal::Accepted;
-    }
-    Refusal::Status
 }

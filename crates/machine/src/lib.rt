@@ -8,6 +8,9 @@ pub use calls::reset;
 pub use calls::run;
 pub use calls::step;
 use instructions::Control;
+ghost use mathlib.Core.Path.{_≡_};
+ghost use Rattle.machine.specs.Calls.{refusalNumber};
+ghost use Rattle.machine.specs.Situation.{reasonNumber};
 
 // Why a machine stopped (document 01, "Exceptions").
 pub enum Stop {
@@ -17,6 +20,18 @@ pub enum Stop {
     Vector,
     // Reason 3: a delayed branch is taken while another's target still waits.
     Branch,
+}
+
+impl Stop {
+    pub fn number(self) -> u32
+        ensures { λ n. ⌜ n ≡ reasonNumber self ⌝ }
+    {
+        match self {
+            Stop::Push => 1,
+            Stop::Vector => 2,
+            Stop::Branch => 3,
+        }
+    }
 }
 
 // Exactly one of: running; in a slot, with the target; asleep; stopped, with a reason.
@@ -42,6 +57,20 @@ pub enum Refusal {
     Size,
     // 3: SR has a bit outside its mask.
     Status,
+}
+
+impl Refusal {
+    // 0 for none.
+    pub fn number(self) -> u32
+        ensures { λ n. ⌜ n ≡ refusalNumber self ⌝ }
+    {
+        match self {
+            Refusal::Accepted => 0,
+            Refusal::Ragged => 1,
+            Refusal::Size => 2,
+            Refusal::Status => 3,
+        }
+    }
 }
 
 pub struct Answer {

@@ -6,13 +6,12 @@ use crate::Refusal;
 use crate::steps;
 use instructions::Control;
 ghost use mathlib.Core.Path.{_≡_};
-ghost use Rattle.machine.specs.Calls as Calls;
-ghost use Rattle.machine.specs.Run.{run};
-ghost use Rattle.machine.specs.Step as Step;
+ghost use Rattle.machine.specs.Promises.{RunsAccepted};
+ghost use Rattle.machine.specs.Step.{asleepOrStopped};
 
 // The registers are locals, lent to each step one by one: so the compiler keeps them where it likes.
 pub fn run_accepted(machine: Machine, memory: &mut [u8], budget: u32) -> Answer
-    ensures { λ a. ⌜ Calls.called a (now (memory .exit)) ≡ Calls.ran (run budget (Calls.over machine (now (memory .entry)))) ⌝ }
+    ensures { λ a. ⌜ RunsAccepted budget machine (now (memory .entry)) a (now (memory .exit)) ⌝ }
 {
     let mut r = machine.r;
     let mut pc = machine.control.pc;
@@ -59,7 +58,7 @@ pub fn run_accepted(machine: Machine, memory: &mut [u8], budget: u32) -> Answer
 }
 
 fn halted(mode: Mode) -> bool
-    ensures { λ b. ⌜ b ≡ Step.halted mode ⌝ }
+    ensures { λ b. ⌜ b ≡ asleepOrStopped mode ⌝ }
 {
     match mode {
         Mode::Running => false,

@@ -24,7 +24,7 @@ pub fn advance(
     r: &mut [u32; 16],
     memory: &mut [u8],
 ) -> Mode
-    requires { ⌜ Step.halted mode ≡ false ⌝ }
+    requires { ⌜ Step.asleepOrStopped mode ≡ false ⌝ }
     ensures { λ m. ⌜ Advances mode (now (pc .entry)) (now (sr .entry)) (now (gbr .entry)) (now (vbr .entry)) (now (pr .entry)) (now (mach .entry)) (now (macl .entry)) (now (r .entry)) (now (memory .entry)) m (now (pc .exit)) (now (sr .exit)) (now (gbr .exit)) (now (vbr .exit)) (now (pr .exit)) (now (mach .exit)) (now (macl .exit)) (now (r .exit)) (now (memory .exit)) ⌝ }
 {
     let at = *pc;

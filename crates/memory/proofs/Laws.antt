@@ -38,7 +38,7 @@ module _ (k : ℕ) (memory : List ℕ) (address value : ℕ) where
   byte-elsewhere i apart =
       by-cases (λ m. getD m i 0 ≡ getD memory i 0) (written-elsewhere k memory address value i apart) refl
 
-  store-writes : accessible k memory address ≡ true → storedAt k memory address value ≡ written k memory address value
+  pub store-writes : accessible k memory address ≡ true → storedAt k memory address value ≡ written k memory address value
   unfolding storedAt
   store-writes passed = rw passed
 

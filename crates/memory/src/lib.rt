@@ -1,14 +1,16 @@
-// Big-endian loads and stores of a byte, a word and a long over a lent memory (document 01, "Memory").
+// Big-endian loads and stores of a byte, a word and a long over a lent memory, and the lengths that it may have (document 01, "Memory").
 ghost use mathlib.Core.Path.{_≡_};
 ghost use Prim.Native.Nat.{_<_};
 ghost use lib.ListN.{length};
 ghost use Rattle.memory.specs.Access.{put, ByteAt};
 
 mod byte;
+mod lengths;
 mod long;
 mod word;
 
 pub use byte::Byte;
+pub use lengths::refused_length;
 pub use long::Long;
 pub use word::Word;
 

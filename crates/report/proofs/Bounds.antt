@@ -10,9 +10,7 @@ use lib.Dec.{eqb}
 use lib.ListN.{drop, getD, length, length-append, take}
 use lib.Seq.{drop-at, take-at, take-length}
 use Rattle.instructions.specs.declared.control.Control.{Control}
-use Rattle.machine.specs.Calls.{refusalNumber}
-use Rattle.machine.specs.Exceptions.{reasonNumber}
-use Rattle.machine.specs.declared.Answer.{Answer}
+use Rattle.machine.specs.Situation.{machineOf, reasonNumber}
 use Rattle.machine.specs.declared.Machine.{Machine}
 use Rattle.machine.specs.declared.Mode.{Mode}
 use Rattle.machine.specs.declared.Mode.the-variants.{Running, Slot, Asleep, Stopped}
@@ -120,17 +118,19 @@ machine-most m steps =
 refusal-most : (number : ℕ) → Most 10 (refusalText number)
 refusal-most number = both (both (word (ascii "refused ")) (decimal-most 1 number)) (word lineFeed)
 
-answer-most : (a : Answer) → Most 347 (answerText a)
+answer-most : (refusal : ℕ) (m : Machine) (steps : ℕ) → Most 347 (answerText refusal m steps)
 unfolding answerText
-answer-most a = go (eqb (refusalNumber (a .refusal)) 0)
+answer-most refusal m steps = go (eqb refusal 0)
   where
-    go : (t : Bool) → Most 347 (cond t (machineText (a .machine) (a .steps)) (refusalText (refusalNumber (a .refusal))))
-    go true = machine-most (a .machine) (a .steps)
-    go false = less 347 (omega arith) (refusal-most (refusalNumber (a .refusal)))
+    go : (t : Bool) → Most 347 (cond t (machineText m steps) (refusalText refusal))
+    go true = machine-most m steps
+    go false = less 347 (omega arith) (refusal-most refusal)
 
 -- No report is longer than 347 bytes.
 pub enough : (image : List ℕ) → length (report image) ≤ 347
-enough image = answer-most (outcome image .answer) .most
+enough image =
+    let end = outcome image in
+    answer-most (end .refusal) (machineOf (end .ran .after)) (end .ran .steps) .most
 
 -- Where there is room for the report, it stands at the buffer's start, whole, and what is behind it stays.
 pub record Stands (image buffer filled : List ℕ) (n : ℕ) : Type 0 where

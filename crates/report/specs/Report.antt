@@ -1,28 +1,26 @@
 -- What the runner prints: document 01, "The runner".
 use mathlib.Core.Path.{_≡_}
 use mathlib.Core.Bool.{cond}
-use mathlib.Core.List.{List, [], _++_}
+use mathlib.Core.List.{List, [], _∷_, _++_}
 use Prim.Native.Nat.{ℕ, zero, suc, _≤_, min}
 use lib.Dec.{eqb, ltb}
 use lib.ListN.{drop, getD, length, replicate, take}
 use Rattle.instructions.specs.declared.control.Control.{Control}
-use Rattle.machine.specs.Calls.{Called, called, refusalNumber, refusedMemory, resetBy, runCall}
-use Rattle.machine.specs.Exceptions.{reasonNumber}
-use Rattle.machine.specs.declared.Answer.{Answer}
+use Rattle.memory.specs.Lengths.{first, lengthTests, test}
+use Rattle.machine.specs.Situation.{machineOf, reasonNumber}
+use Rattle.machine.specs.Calls.{Called, resetBy, runCall}
 use Rattle.machine.specs.declared.Machine.{Machine}
 use Rattle.machine.specs.declared.Mode.{Mode}
 use Rattle.machine.specs.declared.Mode.the-variants.{Running, Slot, Asleep, Stopped}
-use Rattle.machine.specs.declared.Refusal.{Refusal}
-use Rattle.machine.specs.declared.Refusal.the-variants.{Size}
 use Rattle.text.specs.Text.{ascii, decimal, hex, lineFeed}
 
 -- "an image of at most 65,536 bytes ... Longer input counts as refusal 2, also where its length is no multiple of 4."
-abbrev pub refusedImage : List ℕ → Refusal
-refusedImage image = cond (ltb 65536 (length image)) Size (refusedMemory image)
+abbrev pub refusedImage : List ℕ → ℕ
+refusedImage image = first (test 2 (ltb 65536 (length image)) ∷ lengthTests (length image))
 
 -- "resets, runs with budget 1,000,000"
-abbrev pub runFrom : Answer → List ℕ → Called
-runFrom start image = cond (eqb (refusalNumber (start .refusal)) 0) (runCall 1000000 (start .machine) image) (called start image)
+abbrev pub runFrom : Called → List ℕ → Called
+runFrom start image = cond (eqb (start .refusal) 0) (runCall 1000000 (machineOf (start .ran .after)) image) start
 
 unfoldable pub outcome : List ℕ → Called
 outcome image = runFrom (resetBy (refusedImage image) image) image
@@ -76,18 +74,20 @@ machineText m steps =
     stateLine (m .mode) steps ++ pcLine (m .control .pc) (m .control .sr) ++ targetLine (m .mode) ++ generalLines 16 (m .r) ++
     controlLines (m .control)
 
-unfoldable pub answerText : Answer → List ℕ
-answerText a = cond (eqb (refusalNumber (a .refusal)) 0) (machineText (a .machine) (a .steps)) (refusalText (refusalNumber (a .refusal)))
+unfoldable pub answerText : ℕ → Machine → ℕ → List ℕ
+answerText refusal m steps = cond (eqb refusal 0) (machineText m steps) (refusalText refusal)
 
 abbrev pub report : List ℕ → List ℕ
-report image = answerText (outcome image .answer)
+report image =
+    let end = outcome image in
+    answerText (end .refusal) (machineOf (end .ran .after)) (end .ran .steps)
 
 -- The promise of `report`: the buffer's first n bytes are the report's (all of them where it has room), those past them stay, and
 -- the memory is as the run leaves it.
 pub record Reports (image after buffer filled : List ℕ) (n : ℕ) : Type 0 where
   pub counts : n ≡ min (length buffer) (length (report image))
   pub fills : filled ≡ take n (report image) ++ drop n buffer
-  pub leaves : after ≡ outcome image .memory
+  pub leaves : after ≡ outcome image .ran .after .state .memory
 
 -- The promise of `buffer`: zeros, and no report is longer.
 pub record Roomy (buffer : List ℕ) : Type 0 where

@@ -1,16 +1,14 @@
 // The lines of a report.
-use crate::outcomes::refusal_number;
 use instructions::Control;
 use machine::Answer;
 use machine::Machine;
 use machine::Mode;
-use machine::Stop;
 use text::decimal;
 use text::hex;
 use text::write;
 ghost use mathlib.Core.Path.{_≡_};
 ghost use mathlib.Core.List.{_++_};
-ghost use Rattle.machine.specs.Exceptions as Exceptions;
+ghost use Rattle.machine.specs.Calls.{refusalNumber};
 ghost use Rattle.report.specs.Report as Report;
 ghost use Rattle.text.specs.Text as Text;
 ghost use Rattle.text.specs.Writing.{Writes};
@@ -18,10 +16,10 @@ ghost use Rattle.text.specs.Writing.{Writes};
 const GENERAL_REGISTERS: usize = 16;
 
 pub fn answer_text(buffer: &mut [u8], answer: Answer) -> usize
-    ensures { λ end. ⌜ Writes (Report.answerText answer) (now (buffer .entry)) 0 (now (buffer .exit)) end ⌝ }
+    ensures { λ end. ⌜ Writes (Report.answerText (refusalNumber (answer .refusal)) (answer .machine) (answer .steps)) (now (buffer .entry)) 0 (now (buffer .exit)) end ⌝ }
 {
     let refusal = answer.refusal;
-    let number = refusal_number(refusal);
+    let number = refusal.number();
     if number == 0 {
         return machine_text(buffer, answer.machine, answer.steps);
     }
@@ -62,19 +60,8 @@ fn mode_text(buffer: &mut [u8], at: usize, mode: Mode) -> usize
         Mode::Asleep => write(buffer, at, b"asleep"),
         Mode::Stopped(reason) => {
             let place = write(buffer, at, b"stopped ");
-            decimal(buffer, place, 1, reason_number(reason))
+            decimal(buffer, place, 1, reason.number())
         }
-    }
-}
-
-// Document 01's number of a stop reason.
-fn reason_number(reason: Stop) -> u32
-    ensures { λ n. ⌜ n ≡ Exceptions.reasonNumber reason ⌝ }
-{
-    match reason {
-        Stop::Push => 1,
-        Stop::Vector => 2,
-        Stop::Branch => 3,
     }
 }
 

@@ -15,14 +15,14 @@ pub fn outcome(memory: &mut [u8]) -> Answer
 {
     let start = begin(memory);
     let refusal = start.refusal;
-    if refusal_number(refusal) == 0 {
+    if refusal.number() == 0 {
         return machine::run(start.machine, memory, BUDGET);
     }
     start
 }
 
 fn begin(memory: &[u8]) -> Answer
-    ensures { λ a. ⌜ a ≡ Calls.resetBy (Report.refusedImage (now (memory .entry))) (now (memory .entry)) ⌝ }
+    ensures { λ a. ⌜ Calls.called a (now (memory .entry)) ≡ Calls.resetBy (Report.refusedImage (now (memory .entry))) (now (memory .entry)) ⌝ }
 {
     if memory.len() > LONGEST {
         return Answer {
@@ -32,16 +32,4 @@ fn begin(memory: &[u8]) -> Answer
         };
     }
     machine::reset(memory)
-}
-
-// Document 01's number of a refusal; 0 for none.
-pub fn refusal_number(refusal: Refusal) -> u32
-    ensures { λ n. ⌜ n ≡ Calls.refusalNumber refusal ⌝ }
-{
-    match refusal {
-        Refusal::Accepted => 0,
-        Refusal::Ragged => 1,
-        Refusal::Size => 2,
-        Refusal::Status => 3,
-    }
 }

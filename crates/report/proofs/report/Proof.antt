@@ -18,7 +18,7 @@ same-length-2 : tie.Need-same-length-2
 same-length-2 c = search needs
 
 returns : tie.Need-returns
-returns c = let a = c .before .before .before .before .before .before .before .before .before .before .args in reported (a .memory .now) (a .buffer .now) (c .before .before .before .before .before .before .outcome .ensures) (c .before .before .answer-text .ensures)
+returns c = let a = c .before .before .before .before .before .before .before .before .before .before .args in reported (a .memory .now) (a .buffer .now) (c .before .before .before .before .before .before .outcome .result) (c .before .before .before .before .before .before .outcome .ensures) (c .before .before .answer-text .ensures)
 
 pub report-spec : {M : Type 1} → statement M
 report-spec =

@@ -1,20 +1,13 @@
--- `refused_memory` tries the length as document 01 does.
+-- `refused_memory` gives the length's refusal its name.
 -- Assumes nothing.
-use borrow.Author.Tests.{ne-eqb, eq-eqb, lt-ltb, le-ltb}
+use lib.ListN.{length}
+use borrow.Author.Needs.{needs}
+use Rattle.machine.proofs.Calling.{size-left}
 use Rattle.machine.proofs.calls.refused_memory.Statement.{statement}
 use Rattle.machine.proofs.calls.refused_memory.Tie as tie
 
-returns : tie.Need-returns
-returns c = rw (ne-eqb _ _ (c .if1 .taken))
-
-returns-2 : tie.Need-returns-2
-returns-2 c = rw (eq-eqb _ _ (c .before .if1 .left), lt-ltb _ _ (c .if2 .taken))
-
 returns-3 : tie.Need-returns-3
-returns-3 c = rw (eq-eqb _ _ (c .before .before .if1 .left), le-ltb _ _ (c .before .if2 .left), lt-ltb _ _ (c .if3 .taken))
-
-returns-4 : tie.Need-returns-4
-returns-4 c = rw (eq-eqb _ _ (c .before .before .if1 .left), le-ltb _ _ (c .before .if2 .left), le-ltb _ _ (c .if3 .left))
+returns-3 c = size-left (length (c .before .before .before .args .memory .now)) (c .before .refused-length .ensures) (c .match .rest .0 .1) (c .match .rest .1)
 
 pub refused-memory-spec : {M : Type 1} → statement M
-refused-memory-spec = tie.close (tie.spec returns returns-2 returns-3 returns-4)
+refused-memory-spec = tie.close (tie.spec (search needs) (λ c. search needs) (λ c. search needs) returns-3)

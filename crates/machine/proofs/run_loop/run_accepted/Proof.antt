@@ -7,7 +7,7 @@ use borrow.Author.Needs.{needs}
 use Rattle.instructions.specs.Promises.{state}
 use Rattle.instructions.specs.State.{control}
 use Rattle.instructions.proofs.Answers.{met}
-use Rattle.machine.specs.Exceptions.{at}
+use Rattle.machine.specs.Situation.{at}
 use Rattle.machine.proofs.Going.{Going, begins, ends-halted, ends-with-the-budget, goes-on}
 use Rattle.machine.proofs.run_loop.run_accepted.Statement.{statement}
 use Rattle.machine.proofs.run_loop.run_accepted.Tie as tie

@@ -8,8 +8,8 @@ use Rattle.report.specs.Report.{answerText}
 use Rattle.report.proofs.lines.answer_text.Statement.{statement}
 use Rattle.report.proofs.lines.answer_text.Tie as tie
 
-refusal-number-requires : tie.Need-refusal-number-requires
-refusal-number-requires c κs = search needs
+number-requires : tie.Need-number-requires
+number-requires c κs = search needs
 
 machine-text-requires : tie.Need-machine-text-requires
 machine-text-requires c κs = search needs
@@ -19,7 +19,7 @@ same-length c = search needs
 
 returns : tie.Need-returns
 unfolding answerText
-returns c = rw (sym (c .before .before .before .before .before .refusal-number .ensures), c .before .before .before .before .if1 .taken) (c .before .before .machine-text .ensures)
+returns c = rw (sym (c .before .before .before .before .before .number .ensures), c .before .before .before .before .if1 .taken) (c .before .before .machine-text .ensures)
 
 slice-aggregate-write : tie.Need-slice-aggregate-write
 slice-aggregate-write c = search needs
@@ -41,13 +41,13 @@ same-length-2 c = search needs
 
 returns-2 : tie.Need-returns-2
 unfolding answerText
-returns-2 c = let a = c .before .before .before .before .before .before .before .before .before .before .before .before .before .before .before .before .before .args in rw (sym (c .before .before .before .before .before .before .before .before .before .before .before .before .before .before .before .refusal-number .ensures), ne-eqb _ _ (c .before .before .before .before .before .before .before .before .before .before .before .before .before .before .if1 .left)) (and-then _ _ (a .buffer .now) 0 (and-then _ _ (a .buffer .now) 0 (c .before .before .before .before .before .before .before .before .before .before .before .write .ensures) (c .before .before .before .before .before .before .before .decimal .ensures)) (c .before .before .write2 .ensures))
+returns-2 c = let a = c .before .before .before .before .before .before .before .before .before .before .before .before .before .before .before .before .before .args in rw (sym (c .before .before .before .before .before .before .before .before .before .before .before .before .before .before .before .number .ensures), ne-eqb _ _ (c .before .before .before .before .before .before .before .before .before .before .before .before .before .before .if1 .left)) (and-then _ _ (a .buffer .now) 0 (and-then _ _ (a .buffer .now) 0 (c .before .before .before .before .before .before .before .before .before .before .before .write .ensures) (c .before .before .before .before .before .before .before .decimal .ensures)) (c .before .before .write2 .ensures))
 
 pub answer-text-spec : {M : Type 1} → statement M
 answer-text-spec =
     tie.close
     (tie.spec
-    refusal-number-requires
+    number-requires
     machine-text-requires
     same-length
     returns

@@ -43,8 +43,8 @@ slice-aggregate-write-4 c = search needs
 write-requires-4 : tie.Need-write-requires-4
 write-requires-4 c κs = search needs
 
-reason-number-requires : tie.Need-reason-number-requires
-reason-number-requires c κs = search needs
+number-requires : tie.Need-number-requires
+number-requires c κs = search needs
 
 decimal-requires : tie.Need-decimal-requires
 decimal-requires c κs = search needs
@@ -75,7 +75,7 @@ same-length-4 c = search needs
 
 returns-4 : tie.Need-returns-4
 unfolding modeText
-returns-4 c = let a = c .before .before .before .before .before .before .before .before .before .before .before .before .before .before .args in rw (c .before .before .before .before .before .before .before .before .before .before .before .mode .given .1, sym (c .before .before .before .reason-number .ensures)) (and-then _ _ (a .buffer .now) (a .at) (c .before .before .before .before .before .before .before .write4 .ensures) (c .before .before .decimal .ensures))
+returns-4 c = let a = c .before .before .before .before .before .before .before .before .before .before .before .before .before .before .args in rw (c .before .before .before .before .before .before .before .before .before .before .before .mode .given .1, sym (c .before .before .before .number .ensures)) (and-then _ _ (a .buffer .now) (a .at) (c .before .before .before .before .before .before .before .write4 .ensures) (c .before .before .decimal .ensures))
 
 pub mode-text-spec : {M : Type 1} → statement M
 mode-text-spec =
@@ -93,7 +93,7 @@ mode-text-spec =
     enum-known-mode
     slice-aggregate-write-4
     write-requires-4
-    reason-number-requires
+    number-requires
     decimal-requires
     same-length
     returns
