@@ -8,6 +8,7 @@ use native.Mathlib.Omega.{arith}
 use borrow.Author.Tests.{eq-eqb, le-leb}
 use lib.ListN.{length}
 use Rattle.numbers.specs.Numbers.{low32}
+use Rattle.arithmetic.specs.Addresses.{following}
 use Rattle.memory.specs.Access.{accessible, valueAt, loaded}
 use Rattle.memory.specs.declared.Loaded.the-variants as loads
 use Rattle.decoder.specs.Code.{meaning, among}
@@ -58,7 +59,7 @@ fetches memory address w even inside stands =
 -- The step of any instruction that leads on to the next.
 steps-on :
     (s after : State) (w : ℕ) (x : Meaning) (pc : ℕ) → loaded 2 (s .memory) (s .control .pc) ≡ loads.Value w → meaning w ≡ x →
-    execute x s ≡ next after → low32 (s .control .pc + 2) ≡ pc →
+    execute x (following (s .control .pc)) s ≡ next after → low32 (s .control .pc + 2) ≡ pc →
     step (at Running s) ≡ at Running (changed (withPc pc) after)
 unfolding step attempted
 steps-on s after w x pc fetched means gives moves = rw (fetched, means, gives, moves)

@@ -57,4 +57,4 @@ module _ {sr sr' : ℕ} {q r : List ℕ} where
       (sr ≡ sr') × (q ≡ r)
   computes-determined x before general one other =
       let all = on-sr-determined x before general [] (one []) (other []) in
-      (all .1 .0, all .1 .1 .0)
+      (all .1, all .2)

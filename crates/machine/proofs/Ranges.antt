@@ -26,7 +26,7 @@ use Rattle.machine.specs.Situation.{Situation, at, over}
 use Rattle.machine.specs.Exceptions.{belowR15, pushed, raise, vector, savedPc, addressError}
 use Rattle.machine.specs.Calls.{Called, blank, calling, refused, resetCall, runCall, start, stepCall}
 use Rattle.machine.specs.Run.{Ran, run, stepped, still}
-use Rattle.machine.specs.Step.{step, halted, inSlot, illegalNumber, nextPc, delayed, settle, fetched}
+use Rattle.machine.specs.Step.{step, halted, inSlot, illegalNumber, nextPc, delayed, settle, fetched, pcOf}
 use Rattle.machine.specs.declared.Machine.{Machine}
 use Rattle.machine.specs.declared.Mode.{Mode}
 use Rattle.machine.specs.declared.Mode.the-variants.{Running, Slot, Asleep, Stopped}
@@ -97,8 +97,8 @@ settles Illegal mode waiting r q below = enters r (illegalNumber mode) _
 
 fetches : (mode : Mode) (l : Loaded) {s : State} → ModeInRange mode → StateInRange s → InRange (fetched mode l s)
 fetches mode (loads.Value w) {s} waiting r =
-    let e = attempt-in-range (inSlot mode) (meaning w) s (fields-within w) r in
-    settles (attempted (inSlot mode) (meaning w) s .flow) mode waiting r (e .after) (e .target)
+    let e = attempt-in-range (inSlot mode) (meaning w) (pcOf mode s) s (fields-within w) (low32-below _) r in
+    settles (attempted (inSlot mode) (meaning w) (pcOf mode s) s .flow) mode waiting r (e .after) (e .target)
 fetches mode loads.Fault waiting r = enters r addressError _
 
 pub step-keeps : (x : Situation) → InRange x → InRange (step x)
@@ -207,8 +207,8 @@ settle-sized Illegal mode before after same = entry-sized (illegalNumber mode) (
 
 fetch-sized : (mode : Mode) (l : Loaded) (s : State) → Sized (length (s .memory)) (fetched mode l s)
 fetch-sized mode (loads.Value w) s =
-    settle-sized (attempted (inSlot mode) (meaning w) s .flow) mode s (attempted (inSlot mode) (meaning w) s .after)
-    (attempt-keeps-length (inSlot mode) (meaning w) s)
+    settle-sized (attempted (inSlot mode) (meaning w) (pcOf mode s) s .flow) mode s (attempted (inSlot mode) (meaning w) (pcOf mode s) s .after)
+    (attempt-keeps-length (inSlot mode) (meaning w) (pcOf mode s) s)
 fetch-sized mode loads.Fault s = entry-sized addressError (savedPc mode (s .control .pc)) s
 
 pub step-keeps-length : (x : Situation) → length (step x .state .memory) ≡ length (x .state .memory)

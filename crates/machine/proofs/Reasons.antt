@@ -15,7 +15,7 @@ use Rattle.instructions.proofs.Effects.{Straight, no-branch-in-slot}
 use Rattle.machine.specs.Situation.{Situation}
 use Rattle.machine.specs.Exceptions.{raise, savedPc, addressError}
 use Rattle.machine.specs.Run.{run}
-use Rattle.machine.specs.Step.{step, halted, inSlot, illegalNumber, nextPc, settle, fetched}
+use Rattle.machine.specs.Step.{step, halted, inSlot, illegalNumber, nextPc, settle, fetched, pcOf}
 use Rattle.machine.specs.declared.Mode.{Mode}
 use Rattle.machine.specs.declared.Mode.the-variants.{Running, Slot, Asleep, Stopped}
 use Rattle.machine.specs.declared.Stop.the-variants.{Push, Vector, Branch}
@@ -62,15 +62,15 @@ settles (Trap number) mode before after other straight = enters number (nextPc m
 settles Fault mode before after other straight = enters addressError (nextPc mode before) before
 settles Illegal mode before after other straight = enters (illegalNumber mode) (savedPc mode (before .control .pc)) before
 
-straight-in-slot : (mode : Mode) (x : Meaning) (s : State) → StraightInSlot mode (attempted (inSlot mode) x s .flow)
-straight-in-slot (Slot target) x s = no-branch-in-slot x s
+straight-in-slot : (mode : Mode) (x : Meaning) (s : State) → StraightInSlot mode (attempted (inSlot mode) x (pcOf mode s) s .flow)
+straight-in-slot (Slot target) x s = no-branch-in-slot x (pcOf (Slot target) s) s
 straight-in-slot Running x s = tt
 straight-in-slot Asleep x s = tt
 straight-in-slot (Stopped reason) x s = tt
 
 fetches : (mode : Mode) (l : Loaded) (s : State) → Other mode → Elsewhere (fetched mode l s)
 fetches mode (loads.Value w) s other =
-    settles (attempted (inSlot mode) (meaning w) s .flow) mode s (attempted (inSlot mode) (meaning w) s .after) other
+    settles (attempted (inSlot mode) (meaning w) (pcOf mode s) s .flow) mode s (attempted (inSlot mode) (meaning w) (pcOf mode s) s .after) other
     (straight-in-slot mode (meaning w) s)
 fetches mode loads.Fault s other = enters addressError (savedPc mode (s .control .pc)) s
 

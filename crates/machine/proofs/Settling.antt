@@ -17,7 +17,7 @@ use Rattle.instructions.proofs.Effects.{Unchanged, Straight, attempt-changes-no
 use Rattle.machine.specs.Situation.{at}
 use Rattle.machine.specs.Exceptions.{addressError, raise, savedPc}
 use Rattle.machine.specs.Promises.{Admits}
-use Rattle.machine.specs.Step.{asleepOrStopped, inSlot, nextPc, settle, step}
+use Rattle.machine.specs.Step.{asleepOrStopped, inSlot, nextPc, settle, step, pcOf}
 use Rattle.machine.specs.declared.Mode.{Mode}
 use Rattle.machine.specs.declared.Mode.the-variants.{Running, Slot, Asleep, Stopped}
 
@@ -59,30 +59,30 @@ straight-admitted (Trap number) target straight = straight
 straight-admitted Fault target straight = tt
 straight-admitted Illegal target straight = tt
 
-pub admitted : (mode : Mode) (x : Meaning) (s : State) → asleepOrStopped mode ≡ false → Admits mode (attempted (inSlot mode) x s .flow)
+pub admitted : (mode : Mode) (x : Meaning) (s : State) → asleepOrStopped mode ≡ false → Admits mode (attempted (inSlot mode) x (pcOf mode s) s .flow)
 admitted Running x s runs = tt
-admitted (Slot target) x s runs = straight-admitted (attempted true x s .flow) target (no-branch-in-slot x s)
+admitted (Slot target) x s runs = straight-admitted (attempted true x (pcOf (Slot target) s) s .flow) target (no-branch-in-slot x (pcOf (Slot target) s) s)
 admitted Asleep x s runs = absurd (true-ne-false runs)
 admitted (Stopped reason) x s runs = absurd (true-ne-false runs)
 
 pub settles-by-what-is-left :
     (mode : Mode) (x : Meaning) (s : State) → asleepOrStopped mode ≡ false →
-    settle (attempted (inSlot mode) x s .flow) mode s (attempted (inSlot mode) x s .after) ≡
-    settle (attempted (inSlot mode) x s .flow) mode (attempted (inSlot mode) x s .after) (attempted (inSlot mode) x s .after)
+    settle (attempted (inSlot mode) x (pcOf mode s) s .flow) mode s (attempted (inSlot mode) x (pcOf mode s) s .after) ≡
+    settle (attempted (inSlot mode) x (pcOf mode s) s .flow) mode (attempted (inSlot mode) x (pcOf mode s) s .after) (attempted (inSlot mode) x (pcOf mode s) s .after)
 settles-by-what-is-left mode x s runs =
-    settled (attempted (inSlot mode) x s .flow) mode s (attempted (inSlot mode) x s .after)
-    (attempt-changes-nothing (inSlot mode) x s) (attempt-keeps-pc (inSlot mode) x s) (admitted mode x s runs)
+    settled (attempted (inSlot mode) x (pcOf mode s) s .flow) mode s (attempted (inSlot mode) x (pcOf mode s) s .after)
+    (attempt-changes-nothing (inSlot mode) x (pcOf mode s) s) (attempt-keeps-pc (inSlot mode) x (pcOf mode s) s) (admitted mode x s runs)
 
 pub admits-flow :
     (mode : Mode) (x : Meaning) (s : State) (flow : Flow) (after : State) → asleepOrStopped mode ≡ false →
-    attempted (inSlot mode) x s ≡ leads flow after → Admits mode flow
+    attempted (inSlot mode) x (pcOf mode s) s ≡ leads flow after → Admits mode flow
 admits-flow mode x s flow after runs e =
-    let same : attempted (inSlot mode) x s .flow ≡ flow = ap (λ (y : Effect). y .flow) e in
+    let same : attempted (inSlot mode) x (pcOf mode s) s .flow ≡ flow = ap (λ (y : Effect). y .flow) e in
     rw (sym same) (admitted mode x s runs)
 
 pub step-settles :
     (mode : Mode) (s : State) (w : ℕ) (flow : Flow) (after : State) → asleepOrStopped mode ≡ false →
-    loaded 2 (s .memory) (s .control .pc) ≡ loads.Value w → attempted (inSlot mode) (meaning w) s ≡ leads flow after →
+    loaded 2 (s .memory) (s .control .pc) ≡ loads.Value w → attempted (inSlot mode) (meaning w) (pcOf mode s) s ≡ leads flow after →
     step (at mode s) ≡ settle flow mode after after
 unfolding step
 step-settles mode s w flow after runs word e = rw (runs, word, settles-by-what-is-left mode (meaning w) s runs, e)

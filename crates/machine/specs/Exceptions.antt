@@ -6,8 +6,8 @@ use lib.Dec.{eqb}
 use Rattle.numbers.specs.Numbers.{low32}
 use Rattle.memory.specs.Access.{accessible, valueAt, written}
 use Rattle.memory.specs.Lengths.{Test, first, test}
-use Rattle.instructions.specs.State.{State, withReg, withMemory, changed, withPc, withSr}
-use Rattle.instructions.specs.Shapes.{steppedBack}
+use Rattle.instructions.specs.State.{State, reg, withReg, withMemory, changed, withPc, withSr}
+use Rattle.instructions.specs.Shapes.{minus}
 use Rattle.machine.specs.declared.Mode.{Mode}
 use Rattle.machine.specs.declared.Mode.the-variants.{Running, Slot, Asleep, Stopped}
 use Rattle.machine.specs.Situation.{Situation, at, stopped}
@@ -21,7 +21,7 @@ savedPc (Stopped reason) other = other
 
 -- R15-4 and R15-8
 abbrev pub belowR15 : ℕ → State → ℕ
-belowR15 k s = steppedBack k 15 s
+belowR15 k s = minus (reg 15 s) k
 
 -- "VBR + 4 x number"
 abbrev pub vector : ℕ → State → ℕ

@@ -2,6 +2,7 @@
 use mathlib.Core.Bool.{Bool, true, false, cond}
 use Prim.Native.Nat.{ℕ, _+_}
 use Rattle.numbers.specs.Numbers.{low32}
+use Rattle.arithmetic.specs.Addresses.{following}
 use Rattle.memory.specs.Access.{loaded}
 use Rattle.memory.specs.declared.Loaded.{Loaded}
 use Rattle.memory.specs.declared.Loaded.the-variants as loads
@@ -56,9 +57,13 @@ settle Illegal mode before after = raise (illegalNumber mode) (savedPc mode (bef
 abbrev pub performed : Mode → State → Effect → Situation
 performed mode s e = settle (e .flow) mode s (e .after)
 
+-- What an instruction takes for PC in its own address arithmetic: A + 4, and "A is the instruction's own address, in a slot too."
+abbrev pub pcOf : Mode → State → ℕ
+pcOf mode s = following (s .control .pc)
+
 -- Items 3 to 5.
 abbrev pub decoded : Mode → Meaning → State → Situation
-decoded mode x s = performed mode s (attempted (inSlot mode) x s)
+decoded mode x s = performed mode s (attempted (inSlot mode) x (pcOf mode s) s)
 
 -- Item 2, "Fetch the word at PC. PC odd or the word outside: address error."
 abbrev pub fetched : Mode → Loaded → State → Situation
