@@ -1,7 +1,9 @@
 // Addresses counted from PC, which is the instruction's own address and 4: document 01, "Branch addresses" and "PC-relative data".
 use std::num::wrapping_add_u32;
 ghost use mathlib.Core.Path.{_≡_};
-ghost use Prim.Native.Nat.{_^_};
+ghost use Prim.Native.Nat.{_+_, _^_};
+ghost use lib.IntN.{pos, _*ℤ_};
+ghost use Rattle.numbers.specs.Numbers.{low32, lowLong};
 ghost use Rattle.arithmetic.specs.Addresses as Addresses;
 
 pub fn following(a: u32) -> u32
@@ -14,21 +16,22 @@ pub fn following(a: u32) -> u32
 pub fn branch(a: u32, d: u8) -> u32
     ensures { λ r. ⌜ r ≡ Addresses.branch (2 ^ 7) (Addresses.following a) d ⌝ }
 {
-    displaced(following(a), d as u32, 0x80)
+    displaced(following(a), numbers::signed(d as u32, 0x80))
 }
 
 // A branch by a 12-bit displacement, of which a number has no bit above the twelve.
 pub fn long_branch(a: u32, d: u16) -> u32
     ensures { λ r. ⌜ r ≡ Addresses.branch (2 ^ 11) (Addresses.following a) d ⌝ }
 {
-    displaced(following(a), d as u32, 0x800)
+    displaced(following(a), numbers::signed(d as u32, 0x800))
 }
 
-fn displaced(pc: u32, d: u32, half: u32) -> u32
-    ensures { λ r. ⌜ r ≡ Addresses.branch half pc d ⌝ }
+// PC and twice the displacement. It takes the signed number, and no width: docs/DECISIONS.md, "The code".
+fn displaced(pc: u32, d: i64) -> u32
+    ensures { λ r. ⌜ r ≡ low32 (pc + lowLong (d *ℤ pos 2)) ⌝ }
 {
-    let twice = numbers::signed(d, half) * 2;
-    wrapping_add_u32(pc, numbers::low_long(twice))
+    let once = numbers::low_long(d);
+    wrapping_add_u32(pc, wrapping_add_u32(once, once))
 }
 
 pub fn far(a: u32, m: u32) -> u32

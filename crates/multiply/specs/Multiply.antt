@@ -1,6 +1,6 @@
 -- Multiplications, and multiplications that add to MACH and MACL: document 000, sections 6.20, 6.21, 6.29, 6.31 and 6.38 to 6.40,
 -- with document 01, "Instructions with corners", for the saturation. m and n are the two operands, a is MACH and MACL, s is S.
-use mathlib.Core.Bool.{Bool, cond}
+use mathlib.Core.Bool.{cond}
 use Prim.Native.Nat.{ℕ, _+_, _*_, _-_, _/_, _%_, _^_}
 use lib.Dec.{eqb}
 use lib.IntN.{ℤ, pos, negℤ, _+ℤ_, _*ℤ_}
@@ -43,7 +43,7 @@ mulsW m n = lowLong (productWord m n)
 abbrev pub muluW : ℕ → ℕ → ℕ
 muluW m n = n % 2 ^ 16 * (m % 2 ^ 16)
 
--- A product added to the 64 bits modulo 2^64.
+-- With S = 0: the product is added to the 64 bits modulo 2^64.
 abbrev pub summed : Mac → ℤ → Mac
 summed a product = split ((joined a + lowQuad product) % 2 ^ 64)
 

@@ -55,13 +55,6 @@ mag-minus a b k l h g = mag-plus a (negℤ b) k (suc l) h (negated b g)
     negated (pos (suc n)) g = omega arith
     negated (negsuc n) g = omega arith
 
-pub mag-double : (z : ℤ) (k : ℕ) → mag z < k → mag (z *ℤ pos 2) < k + k
-mag-double (pos n) k h = omega arith
-mag-double (negsuc n) k h = rw (mul-suc-two n) (omega arith)
-  where
-    mul-suc-two : (a : ℕ) → suc a * 2 ≡ suc (a + a + 1)
-    mul-suc-two a = omega arith
-
 -- A signed number that fits 64 bits is what they read back as.
 pub read-back : (z : ℤ) → mag z < 2 ^ 63 → toZ w64 (ofZ w64 z) ≡ z
 read-back z h = toZ-ofZ (record { sfits = h })

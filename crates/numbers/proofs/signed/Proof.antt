@@ -1,6 +1,6 @@
 -- `signed` gives the signed reading: below half the number itself, else less the whole width, which both fit 64 bits.
 -- Assumes nothing.
-use mathlib.Core.Path.{_≡_, _∙_}
+use mathlib.Core.Path.{_≡_}
 use Prim.Native.Nat.{ℕ, _+_, _<_, _^_}
 use native.Mathlib.Omega.{arith}
 use borrow.Author.Needs.{needs}
