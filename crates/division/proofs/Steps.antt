@@ -7,6 +7,7 @@ use native.Mathlib.Omega.{arith}
 use lib.Dec.{eqb, leb, ltb}
 use Rattle.numbers.specs.Numbers.{truth, low32}
 use Rattle.divide.specs.Divide.{div1, flipped}
+use Rattle.instructions.proofs.Kept.{truth-bit}
 
 -- Steps d x c bits answers v q: x stood in Rn, with Q = 0, and d in Rm. After the steps c is 2 to their number, the bits that T brought
 -- make the number bits, the answers that T took the number answers, and v and q are Rn and Q.
@@ -15,10 +16,6 @@ pub data Steps (d x : ℕ) : ℕ → ℕ → ℕ → ℕ → ℕ → Type 0 wher
   another :
       {c bits answers v q : ℕ} (b : ℕ) → b < 2 → Steps d x c bits answers v q →
       Steps d x (c + c) (bits + bits + b) (answers + answers + div1 d v 0 q b .t) (div1 d v 0 q b .value) (div1 d v 0 q b .q)
-
-truth-bit : (a : Bool) → truth a < 2
-truth-bit true = omega arith
-truth-bit false = omega arith
 
 flipped-bit : (a : Bool) (top : ℕ) → top < 2 → flipped a top < 2
 flipped-bit true top bit = omega arith

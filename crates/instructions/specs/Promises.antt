@@ -2,7 +2,7 @@
 use mathlib.Core.Path.{_≡_}
 use mathlib.Core.Bool.{Bool}
 use mathlib.Core.List.{List}
-use Prim.Native.Nat.{ℕ, _+_, _*_}
+use Prim.Native.Nat.{ℕ, _+_, _*_, _<_}
 use Rattle.numbers.specs.Numbers.{low32}
 use Rattle.numbers.specs.declared.WithT.{WithT}
 use Rattle.memory.specs.declared.Loaded.{Loaded}
@@ -52,14 +52,18 @@ Replaces byte at memory f after =
     (r : List ℕ) (c : Control) →
     storing 1 at byte (state r c memory) ≡ leads f (state r c after)
 
--- T is what an instruction tells where Rm and Rn are a and b.
+-- T, a bit, is what an instruction tells where Rm and Rn are a and b.
 abbrev pub Tells : (ℕ → ℕ → Meaning) → ℕ → ℕ → ℕ → Type 0
-Tells x a b t = (m n pc : ℕ) (s : State) → reg m s ≡ a → reg n s ≡ b → execute (x m n) pc s ≡ tells t s
+Tells x a b t =
+    (t < 2) ×
+    ((m n pc : ℕ) (s : State) → reg m s ≡ a → reg n s ≡ b → execute (x m n) pc s ≡ tells t s)
 
--- A value for Rn, and T, are what an instruction gives where Rm, Rn and T are a, b and t.
+-- A value for Rn, and T, a bit, are what an instruction gives where Rm, Rn and T are a, b and t.
 abbrev pub Gives : (ℕ → ℕ → Meaning) → ℕ → ℕ → ℕ → WithT → Type 0
 Gives x a b t w =
-    (m n pc : ℕ) (s : State) → reg m s ≡ a → reg n s ≡ b → tBit s ≡ t → execute (x m n) pc s ≡ givesT n w s
+    t < 2 →
+    (w .t < 2) ×
+    ((m n pc : ℕ) (s : State) → reg m s ≡ a → reg n s ≡ b → tBit s ≡ t → execute (x m n) pc s ≡ givesT n w s)
 
 -- A value beside a T that stays.
 abbrev pub keeping : ℕ → ℕ → WithT

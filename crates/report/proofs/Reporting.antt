@@ -6,14 +6,14 @@ use mathlib.Core.List.{List, _++_}
 use Prim.Native.Nat.{ℕ, _≤_, min}
 use native.Mathlib.Nat.{min-le-left}
 use borrow.Author.Tests.{eq-eqb, ne-eqb}
-use lib.ListN.{drop, length, take}
+use lib.ListN.{drop, length, replicate, take}
 use lib.Seq.{length-take-le}
 use Rattle.machine.specs.Calls.{Called, called, refusalNumber, resetBy, runCall}
 use Rattle.machine.specs.Situation.{machineOf}
 use Rattle.machine.specs.declared.Answer.{Answer}
 use Rattle.text.specs.Writing.{Page, Writes}
 use Rattle.text.proofs.Filling.{written}
-use Rattle.report.specs.Report.{Reports, answerText, outcome, refusedImage, report, runFrom}
+use Rattle.report.specs.Report.{Reports, Roomy, answerText, outcome, refusedImage, report, runFrom}
 
 -- Where the reset is accepted, the outcome is that of the run; where it is refused, the reset's.
 module _ (image : List ℕ) (start : Answer) (begun : called start image ≡ resetBy (refusedImage image) image) where
@@ -75,3 +75,8 @@ pub fits :
 fits {image} {after} {buffer} {filled} {n} made kept =
     let within : n ≤ length filled = rw (kept, made .counts) (min-le-left (length buffer) (length (report image))) in
     sym (length-take-le n filled within)
+
+-- `buffer` can only be its 347 zeros.
+pub buffer-determined : {b c : List ℕ} → (347 ≡ length b) × Roomy b → (347 ≡ length c) × Roomy c → b ≡ c
+buffer-determined (long, roomy) (long', roomy') =
+    roomy .zeros ∙ ap (λ (n : ℕ). replicate n 0) (sym long ∙ long') ∙ sym (roomy' .zeros)

@@ -35,7 +35,7 @@ with-t-requires c κs = search needs
 returns : tie.Need-returns
 returns c = λ memory k.
     let a = c .before .before .before .before .before .args in
-    rw (c .with-t .ensures) (c .before .of-compare .ensures (a .m) (a .n) _ (state (a .r .now) (withSr (a .sr .now) k) memory) refl refl)
+    rw (c .with-t .ensures) (c .before .of-compare .ensures .1 (a .m) (a .n) _ (state (a .r .now) (withSr (a .sr .now) k) memory) refl refl)
 
 pub compare-spec : {M : Type 1} → statement M
 compare-spec =

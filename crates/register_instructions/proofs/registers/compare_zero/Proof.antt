@@ -26,7 +26,7 @@ with-t-requires c κs = search needs
 returns : tie.Need-returns
 returns c = λ memory k.
     let a = c .before .before .before .before .args in
-    rw (c .with-t .ensures) (c .before .of-compare-zero .ensures _ 0 (a .n) _ (state (a .r .now) (withSr (a .sr .now) k) memory) refl refl)
+    rw (c .with-t .ensures) (c .before .of-compare-zero .ensures _ .1 0 (a .n) _ (state (a .r .now) (withSr (a .sr .now) k) memory) refl refl)
 
 pub compare-zero-spec : {M : Type 1} → statement M
 compare-zero-spec =

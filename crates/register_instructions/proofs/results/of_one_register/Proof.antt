@@ -1,7 +1,8 @@
 -- `of_one_register` gives each instruction's value and T: an arm for each, by the promise of its computation.
 -- Assumes nothing.
 use Rattle.instructions.specs.Execute.{execute}
-use Rattle.instructions.proofs.Kept.{t-kept}
+use Rattle.instructions.proofs.Kept.{dt-bit, t-kept}
+use native.Mathlib.Omega.{arith}
 use borrow.Author.Needs.{needs}
 use Rattle.register_instructions.proofs.results.of_one_register.Statement.{statement}
 use Rattle.register_instructions.proofs.results.of_one_register.Tie as tie
@@ -125,67 +126,67 @@ kept-requires-7 c κs = search needs
 
 returns : tie.Need-returns
 unfolding execute
-returns c = λ a m n pc s p q e. rw (c .before .enum-told .given .1, c .dt .ensures, q)
+returns c = λ a small. (rw (c .dt .ensures) (let s : tie.Start = search in dt-bit (s .args .b)), λ m n pc s p q e. rw (c .before .enum-told .given .1, c .dt .ensures, q))
 
 returns-2 : tie.Need-returns-2
 unfolding execute
-returns-2 c = λ a m n pc s p q e. rw (c .before .before .enum-told2 .given .1, c .kept .ensures, c .before .movt .ensures, e) (t-kept n _ _ s e)
+returns-2 c = λ a small. (rw (c .kept .ensures) small, λ m n pc s p q e. rw (c .before .before .enum-told2 .given .1, c .kept .ensures, c .before .movt .ensures, e) (t-kept n _ _ s e))
 
 returns-3 : tie.Need-returns-3
 unfolding execute
-returns-3 c = λ a m n pc s p q e. rw (c .before .enum-told3 .given .1, c .rotcl .ensures, q, e)
+returns-3 c = λ a small. (rw (c .rotcl .ensures) (omega arith), λ m n pc s p q e. rw (c .before .enum-told3 .given .1, c .rotcl .ensures, q, e))
 
 returns-4 : tie.Need-returns-4
 unfolding execute
-returns-4 c = λ a m n pc s p q e. rw (c .before .enum-told4 .given .1, c .rotcr .ensures, q, e)
+returns-4 c = λ a small. (rw (c .rotcr .ensures) (omega arith), λ m n pc s p q e. rw (c .before .enum-told4 .given .1, c .rotcr .ensures, q, e))
 
 returns-5 : tie.Need-returns-5
 unfolding execute
-returns-5 c = λ a m n pc s p q e. rw (c .before .enum-told5 .given .1, c .rotl .ensures, q)
+returns-5 c = λ a small. (rw (c .rotl .ensures) (omega arith), λ m n pc s p q e. rw (c .before .enum-told5 .given .1, c .rotl .ensures, q))
 
 returns-6 : tie.Need-returns-6
 unfolding execute
-returns-6 c = λ a m n pc s p q e. rw (c .before .enum-told6 .given .1, c .rotr .ensures, q)
+returns-6 c = λ a small. (rw (c .rotr .ensures) (omega arith), λ m n pc s p q e. rw (c .before .enum-told6 .given .1, c .rotr .ensures, q))
 
 returns-7 : tie.Need-returns-7
 unfolding execute
-returns-7 c = λ a m n pc s p q e. rw (c .before .enum-told7 .given .1, c .shll .ensures, q)
+returns-7 c = λ a small. (rw (c .shll .ensures) (omega arith), λ m n pc s p q e. rw (c .before .enum-told7 .given .1, c .shll .ensures, q))
 
 returns-8 : tie.Need-returns-8
 unfolding execute
-returns-8 c = λ a m n pc s p q e. rw (c .before .enum-told8 .given .1, c .shar .ensures, q)
+returns-8 c = λ a small. (rw (c .shar .ensures) (omega arith), λ m n pc s p q e. rw (c .before .enum-told8 .given .1, c .shar .ensures, q))
 
 returns-9 : tie.Need-returns-9
 unfolding execute
-returns-9 c = λ a m n pc s p q e. rw (c .before .enum-told9 .given .1, c .shll2 .ensures, q)
+returns-9 c = λ a small. (rw (c .shll2 .ensures) (omega arith), λ m n pc s p q e. rw (c .before .enum-told9 .given .1, c .shll2 .ensures, q))
 
 returns-10 : tie.Need-returns-10
 unfolding execute
-returns-10 c = λ a m n pc s p q e. rw (c .before .before .enum-told10 .given .1, c .kept2 .ensures, c .before .shll22 .ensures, q) (t-kept n _ _ s e)
+returns-10 c = λ a small. (rw (c .kept2 .ensures) small, λ m n pc s p q e. rw (c .before .before .enum-told10 .given .1, c .kept2 .ensures, c .before .shll22 .ensures, q) (t-kept n _ _ s e))
 
 returns-11 : tie.Need-returns-11
 unfolding execute
-returns-11 c = λ a m n pc s p q e. rw (c .before .before .enum-told11 .given .1, c .kept3 .ensures, c .before .shll8 .ensures, q) (t-kept n _ _ s e)
+returns-11 c = λ a small. (rw (c .kept3 .ensures) small, λ m n pc s p q e. rw (c .before .before .enum-told11 .given .1, c .kept3 .ensures, c .before .shll8 .ensures, q) (t-kept n _ _ s e))
 
 returns-12 : tie.Need-returns-12
 unfolding execute
-returns-12 c = λ a m n pc s p q e. rw (c .before .before .enum-told12 .given .1, c .kept4 .ensures, c .before .shll16 .ensures, q) (t-kept n _ _ s e)
+returns-12 c = λ a small. (rw (c .kept4 .ensures) small, λ m n pc s p q e. rw (c .before .before .enum-told12 .given .1, c .kept4 .ensures, c .before .shll16 .ensures, q) (t-kept n _ _ s e))
 
 returns-13 : tie.Need-returns-13
 unfolding execute
-returns-13 c = λ a m n pc s p q e. rw (c .before .enum-told13 .given .1, c .shlr .ensures, q)
+returns-13 c = λ a small. (rw (c .shlr .ensures) (omega arith), λ m n pc s p q e. rw (c .before .enum-told13 .given .1, c .shlr .ensures, q))
 
 returns-14 : tie.Need-returns-14
 unfolding execute
-returns-14 c = λ a m n pc s p q e. rw (c .before .before .enum-told14 .given .1, c .kept5 .ensures, c .before .shlr2 .ensures, q) (t-kept n _ _ s e)
+returns-14 c = λ a small. (rw (c .kept5 .ensures) small, λ m n pc s p q e. rw (c .before .before .enum-told14 .given .1, c .kept5 .ensures, c .before .shlr2 .ensures, q) (t-kept n _ _ s e))
 
 returns-15 : tie.Need-returns-15
 unfolding execute
-returns-15 c = λ a m n pc s p q e. rw (c .before .before .enum-told15 .given .1, c .kept6 .ensures, c .before .shlr8 .ensures, q) (t-kept n _ _ s e)
+returns-15 c = λ a small. (rw (c .kept6 .ensures) small, λ m n pc s p q e. rw (c .before .before .enum-told15 .given .1, c .kept6 .ensures, c .before .shlr8 .ensures, q) (t-kept n _ _ s e))
 
 returns-16 : tie.Need-returns-16
 unfolding execute
-returns-16 c = λ a m n pc s p q e. rw (c .before .before .enum-told16 .given .1, c .kept7 .ensures, c .before .shlr16 .ensures, q) (t-kept n _ _ s e)
+returns-16 c = λ a small. (rw (c .kept7 .ensures) small, λ m n pc s p q e. rw (c .before .before .enum-told16 .given .1, c .kept7 .ensures, c .before .shlr16 .ensures, q) (t-kept n _ _ s e))
 
 pub of-one-register-spec : {M : Type 1} → statement M
 of-one-register-spec =

@@ -1,7 +1,7 @@
 -- `of_two_registers` gives each instruction's value and T: an arm for each, by the promise of its computation.
 -- Assumes nothing.
 use Rattle.instructions.specs.Execute.{execute}
-use Rattle.instructions.proofs.Kept.{t-kept}
+use Rattle.instructions.proofs.Kept.{addc-bit, addv-bit, negc-bit, subc-bit, subv-bit, t-kept}
 use borrow.Author.Needs.{needs}
 use Rattle.register_instructions.proofs.results.of_two_registers.Statement.{statement}
 use Rattle.register_instructions.proofs.results.of_two_registers.Tie as tie
@@ -170,83 +170,83 @@ kept-requires-15 c κs = search needs
 
 returns : tie.Need-returns
 unfolding execute
-returns c = λ m n pc s p q e. rw (c .before .before .enum-told .given .1, c .kept .ensures, c .before .add .ensures, p, q) (t-kept n _ _ s e)
+returns c = λ small. (rw (c .kept .ensures) small, λ m n pc s p q e. rw (c .before .before .enum-told .given .1, c .kept .ensures, c .before .add .ensures, p, q) (t-kept n _ _ s e))
 
 returns-2 : tie.Need-returns-2
 unfolding execute
-returns-2 c = λ m n pc s p q e. rw (c .before .enum-told2 .given .1, c .addc .ensures, p, q, e)
+returns-2 c = λ small. (rw (c .addc .ensures) (let s : tie.Start = search in addc-bit (s .args .a) (s .args .b) (s .args .t)), λ m n pc s p q e. rw (c .before .enum-told2 .given .1, c .addc .ensures, p, q, e))
 
 returns-3 : tie.Need-returns-3
 unfolding execute
-returns-3 c = λ m n pc s p q e. rw (c .before .enum-told3 .given .1, c .addv .ensures, p, q)
+returns-3 c = λ small. (rw (c .addv .ensures) (let s : tie.Start = search in addv-bit (s .args .a) (s .args .b)), λ m n pc s p q e. rw (c .before .enum-told3 .given .1, c .addv .ensures, p, q))
 
 returns-4 : tie.Need-returns-4
 unfolding execute
-returns-4 c = λ m n pc s p q e. rw (c .before .before .enum-told4 .given .1, c .kept2 .ensures, c .before .and .ensures, p, q) (t-kept n _ _ s e)
+returns-4 c = λ small. (rw (c .kept2 .ensures) small, λ m n pc s p q e. rw (c .before .before .enum-told4 .given .1, c .kept2 .ensures, c .before .and .ensures, p, q) (t-kept n _ _ s e))
 
 returns-5 : tie.Need-returns-5
 unfolding execute
-returns-5 c = λ m n pc s p q e. rw (c .before .before .enum-told5 .given .1, c .kept3 .ensures, c .before .exts-b .ensures, p) (t-kept n _ _ s e)
+returns-5 c = λ small. (rw (c .kept3 .ensures) small, λ m n pc s p q e. rw (c .before .before .enum-told5 .given .1, c .kept3 .ensures, c .before .exts-b .ensures, p) (t-kept n _ _ s e))
 
 returns-6 : tie.Need-returns-6
 unfolding execute
-returns-6 c = λ m n pc s p q e. rw (c .before .before .enum-told6 .given .1, c .kept4 .ensures, c .before .exts-w .ensures, p) (t-kept n _ _ s e)
+returns-6 c = λ small. (rw (c .kept4 .ensures) small, λ m n pc s p q e. rw (c .before .before .enum-told6 .given .1, c .kept4 .ensures, c .before .exts-w .ensures, p) (t-kept n _ _ s e))
 
 returns-7 : tie.Need-returns-7
 unfolding execute
-returns-7 c = λ m n pc s p q e. rw (c .before .before .enum-told7 .given .1, c .kept5 .ensures, c .before .extu-b .ensures, p) (t-kept n _ _ s e)
+returns-7 c = λ small. (rw (c .kept5 .ensures) small, λ m n pc s p q e. rw (c .before .before .enum-told7 .given .1, c .kept5 .ensures, c .before .extu-b .ensures, p) (t-kept n _ _ s e))
 
 returns-8 : tie.Need-returns-8
 unfolding execute
-returns-8 c = λ m n pc s p q e. rw (c .before .before .enum-told8 .given .1, c .kept6 .ensures, c .before .extu-w .ensures, p) (t-kept n _ _ s e)
+returns-8 c = λ small. (rw (c .kept6 .ensures) small, λ m n pc s p q e. rw (c .before .before .enum-told8 .given .1, c .kept6 .ensures, c .before .extu-w .ensures, p) (t-kept n _ _ s e))
 
 returns-9 : tie.Need-returns-9
 unfolding execute
-returns-9 c = λ m n pc s p q e. rw (c .before .enum-told9 .given .1, c .kept7 .ensures, p) (t-kept n _ _ s e)
+returns-9 c = λ small. (rw (c .kept7 .ensures) small, λ m n pc s p q e. rw (c .before .enum-told9 .given .1, c .kept7 .ensures, p) (t-kept n _ _ s e))
 
 returns-10 : tie.Need-returns-10
 unfolding execute
-returns-10 c = λ m n pc s p q e. rw (c .before .before .enum-told10 .given .1, c .kept8 .ensures, c .before .neg .ensures, p) (t-kept n _ _ s e)
+returns-10 c = λ small. (rw (c .kept8 .ensures) small, λ m n pc s p q e. rw (c .before .before .enum-told10 .given .1, c .kept8 .ensures, c .before .neg .ensures, p) (t-kept n _ _ s e))
 
 returns-11 : tie.Need-returns-11
 unfolding execute
-returns-11 c = λ m n pc s p q e. rw (c .before .enum-told11 .given .1, c .negc .ensures, p, e)
+returns-11 c = λ small. (rw (c .negc .ensures) (let s : tie.Start = search in negc-bit (s .args .a) (s .args .t)), λ m n pc s p q e. rw (c .before .enum-told11 .given .1, c .negc .ensures, p, e))
 
 returns-12 : tie.Need-returns-12
 unfolding execute
-returns-12 c = λ m n pc s p q e. rw (c .before .before .enum-told12 .given .1, c .kept9 .ensures, c .before .not .ensures, p) (t-kept n _ _ s e)
+returns-12 c = λ small. (rw (c .kept9 .ensures) small, λ m n pc s p q e. rw (c .before .before .enum-told12 .given .1, c .kept9 .ensures, c .before .not .ensures, p) (t-kept n _ _ s e))
 
 returns-13 : tie.Need-returns-13
 unfolding execute
-returns-13 c = λ m n pc s p q e. rw (c .before .before .enum-told13 .given .1, c .kept10 .ensures, c .before .or .ensures, p, q) (t-kept n _ _ s e)
+returns-13 c = λ small. (rw (c .kept10 .ensures) small, λ m n pc s p q e. rw (c .before .before .enum-told13 .given .1, c .kept10 .ensures, c .before .or .ensures, p, q) (t-kept n _ _ s e))
 
 returns-14 : tie.Need-returns-14
 unfolding execute
-returns-14 c = λ m n pc s p q e. rw (c .before .before .enum-told14 .given .1, c .kept11 .ensures, c .before .sub .ensures, p, q) (t-kept n _ _ s e)
+returns-14 c = λ small. (rw (c .kept11 .ensures) small, λ m n pc s p q e. rw (c .before .before .enum-told14 .given .1, c .kept11 .ensures, c .before .sub .ensures, p, q) (t-kept n _ _ s e))
 
 returns-15 : tie.Need-returns-15
 unfolding execute
-returns-15 c = λ m n pc s p q e. rw (c .before .enum-told15 .given .1, c .subc .ensures, p, q, e)
+returns-15 c = λ small. (rw (c .subc .ensures) (let s : tie.Start = search in subc-bit (s .args .a) (s .args .b) (s .args .t)), λ m n pc s p q e. rw (c .before .enum-told15 .given .1, c .subc .ensures, p, q, e))
 
 returns-16 : tie.Need-returns-16
 unfolding execute
-returns-16 c = λ m n pc s p q e. rw (c .before .enum-told16 .given .1, c .subv .ensures, p, q)
+returns-16 c = λ small. (rw (c .subv .ensures) (let s : tie.Start = search in subv-bit (s .args .a) (s .args .b)), λ m n pc s p q e. rw (c .before .enum-told16 .given .1, c .subv .ensures, p, q))
 
 returns-17 : tie.Need-returns-17
 unfolding execute
-returns-17 c = λ m n pc s p q e. rw (c .before .before .enum-told17 .given .1, c .kept12 .ensures, c .before .swap-b .ensures, p) (t-kept n _ _ s e)
+returns-17 c = λ small. (rw (c .kept12 .ensures) small, λ m n pc s p q e. rw (c .before .before .enum-told17 .given .1, c .kept12 .ensures, c .before .swap-b .ensures, p) (t-kept n _ _ s e))
 
 returns-18 : tie.Need-returns-18
 unfolding execute
-returns-18 c = λ m n pc s p q e. rw (c .before .before .enum-told18 .given .1, c .kept13 .ensures, c .before .swap-w .ensures, p) (t-kept n _ _ s e)
+returns-18 c = λ small. (rw (c .kept13 .ensures) small, λ m n pc s p q e. rw (c .before .before .enum-told18 .given .1, c .kept13 .ensures, c .before .swap-w .ensures, p) (t-kept n _ _ s e))
 
 returns-19 : tie.Need-returns-19
 unfolding execute
-returns-19 c = λ m n pc s p q e. rw (c .before .before .enum-told19 .given .1, c .kept14 .ensures, c .before .xor .ensures, p, q) (t-kept n _ _ s e)
+returns-19 c = λ small. (rw (c .kept14 .ensures) small, λ m n pc s p q e. rw (c .before .before .enum-told19 .given .1, c .kept14 .ensures, c .before .xor .ensures, p, q) (t-kept n _ _ s e))
 
 returns-20 : tie.Need-returns-20
 unfolding execute
-returns-20 c = λ m n pc s p q e. rw (c .before .before .enum-told20 .given .1, c .kept15 .ensures, c .before .xtrct .ensures, p, q) (t-kept n _ _ s e)
+returns-20 c = λ small. (rw (c .kept15 .ensures) small, λ m n pc s p q e. rw (c .before .before .enum-told20 .given .1, c .kept15 .ensures, c .before .xtrct .ensures, p, q) (t-kept n _ _ s e))
 
 pub of-two-registers-spec : {M : Type 1} → statement M
 of-two-registers-spec =
