@@ -14,8 +14,8 @@ use Rattle.text.specs.Reading.{andThen, between, digitValue, lowLong, on
 use Rattle.text.specs.Text.{digit, hexIn}
 use Rattle.text.specs.declared.digits.Case.{Case}
 use Rattle.text.specs.declared.digits.Case.the-variants.{Lower, Upper}
-use Rattle.text.specs.declared.reading.Hex.{Hex}
-use Rattle.text.specs.declared.reading.Hex.the-variants.{Number, NotHex}
+use Rattle.text.specs.declared.reading.Read.{Read}
+use Rattle.text.specs.declared.reading.Read.the-variants.{Number, NotHex}
 use Rattle.text.specs.declared.reading.Letters.{Letters}
 use Rattle.text.specs.declared.reading.Letters.the-variants.{LowerCase, EitherCase}
 
@@ -37,11 +37,11 @@ below : (first last byte : ℕ) → byte < first → between first last byte ≡
 below first last byte h = rw (lt-leb first byte h)
 
 -- A digit's value is below 16.
-abbrev Small : Hex → Type 0
+abbrev Small : Read → Type 0
 Small (Number n) = n < 16
 Small NotHex = Unit {0}
 
-picks : (P : Hex → Type 0) (b : Bool) {x y : Hex} → (b ≡ true → P x) → P y → P (cond b x y)
+picks : (P : Read → Type 0) (b : Bool) {x y : Read} → (b ≡ true → P x) → P y → P (cond b x y)
 picks P true f h = f refl
 picks P false f h = h
 
@@ -58,7 +58,7 @@ digit-is-small EitherCase byte =
 pub digit-small : (letters : Letters) (byte : ℕ) {d : ℕ} → Number d ≡ digitValue letters byte → d < 16
 digit-small letters byte e = subst Small (sym e) (digit-is-small letters byte)
 
-either-way : (P : Hex → Type 0) (h : Hex) → ((d : ℕ) → P (Number d)) → P NotHex → P h
+either-way : (P : Read → Type 0) (h : Read) → ((d : ℕ) → P (Number d)) → P NotHex → P h
 either-way P (Number d) f n = f d
 either-way P NotHex f n = n
 

@@ -6,8 +6,8 @@ use lib.Dec.{leb, ltb}
 use lib.ListN.{drop, length, take}
 use Rattle.text.specs.declared.reading.Letters.{Letters}
 use Rattle.text.specs.declared.reading.Letters.the-variants.{LowerCase, EitherCase}
-use Rattle.text.specs.declared.reading.Hex.{Hex}
-use Rattle.text.specs.declared.reading.Hex.the-variants.{Number, NotHex}
+use Rattle.text.specs.declared.reading.Read.{Read}
+use Rattle.text.specs.declared.reading.Read.the-variants.{Number, NotHex}
 
 abbrev pub between : ℕ → ℕ → ℕ → Bool
 between first last byte = leb first byte && leb byte last
@@ -17,28 +17,28 @@ upperToo LowerCase = false
 upperToo EitherCase = true
 
 -- The value of a digit's character: 0 to 9, a to f, and A to F where they are read too.
-unfoldable pub digitValue : Letters → ℕ → Hex
+unfoldable pub digitValue : Letters → ℕ → Read
 digitValue letters byte =
     cond (between 48 57 byte) (Number (byte - 48))
     (cond (between 97 102 byte) (Number (byte - 87))
     (cond (upperToo letters && between 65 70 byte) (Number (byte - 55)) NotHex))
 
-abbrev pub andThen : Hex → (ℕ → Hex) → Hex
+abbrev pub andThen : Read → (ℕ → Read) → Read
 andThen (Number n) f = f n
 andThen NotHex f = NotHex
 
 -- The number that a text's digits make behind those that have made n.
-unfoldable pub onward : Letters → ℕ → List ℕ → Hex
+unfoldable pub onward : Letters → ℕ → List ℕ → Read
 onward letters n [] = Number n
 onward letters n (byte ∷ rest) = andThen (digitValue letters byte) (λ d. onward letters (n * 16 + d) rest)
 
-abbrev pub value : Letters → List ℕ → Hex
+abbrev pub value : Letters → List ℕ → Read
 value letters text = onward letters 0 text
 
 -- The k digits at a place.
-abbrev pub valueAt : Letters → List ℕ → ℕ → ℕ → Hex
+abbrev pub valueAt : Letters → List ℕ → ℕ → ℕ → Read
 valueAt letters text at k = cond (ltb (length text) (at + k)) NotHex (value letters (take k (drop at text)))
 
 -- Of a number that is too long, the low 32 bits.
-abbrev pub lowLong : Hex → Hex
+abbrev pub lowLong : Read → Read
 lowLong h = andThen h (λ n. Number (n % 2 ^ 32))

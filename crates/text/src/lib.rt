@@ -8,7 +8,7 @@ pub use digits::decimal;
 pub use digits::hex;
 pub use digits::hex_in;
 pub use pages::write;
-pub use reading::Hex;
 pub use reading::Letters;
+pub use reading::Read;
 pub use reading::digit_value;
 pub use reading::hex_value;

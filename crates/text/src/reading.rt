@@ -9,7 +9,7 @@ pub enum Letters {
 }
 
 // What was read: a number, or a text that is not one.
-pub enum Hex {
+pub enum Read {
     Number(u32),
     NotHex,
 }
@@ -20,49 +20,49 @@ fn between(first: u8, last: u8, byte: u8) -> bool
     first <= byte && byte <= last
 }
 
-pub fn digit_value(letters: Letters, byte: u8) -> Hex
+pub fn digit_value(letters: Letters, byte: u8) -> Read
     ensures { λ r. ⌜ r ≡ Reading.digitValue letters byte ⌝ }
 {
     if between(48, 57, byte) {
-        return Hex::Number(byte as u32 - 48);
+        return Read::Number(byte as u32 - 48);
     }
     if between(97, 102, byte) {
-        return Hex::Number(byte as u32 - 87);
+        return Read::Number(byte as u32 - 87);
     }
     match letters {
-        Letters::LowerCase => Hex::NotHex,
+        Letters::LowerCase => Read::NotHex,
         Letters::EitherCase => {
             if between(65, 70, byte) {
-                return Hex::Number(byte as u32 - 55);
+                return Read::Number(byte as u32 - 55);
             }
-            Hex::NotHex
+            Read::NotHex
         }
     }
 }
 
 // The k digits at a place.
-pub fn hex_value(text: &[u8], at: usize, letters: Letters, k: usize) -> Hex
+pub fn hex_value(text: &[u8], at: usize, letters: Letters, k: usize) -> Read
     ensures { λ r. ⌜ r ≡ Reading.lowLong (Reading.valueAt letters (now (text .entry)) at k) ⌝ }
 {
     if text.len() < at {
-        return Hex::NotHex;
+        return Read::NotHex;
     }
     if text.len() - at < k {
-        return Hex::NotHex;
+        return Read::NotHex;
     }
     let mut n: u32 = 0;
     let mut i = 0;
     while i < k {
         let digit = digit_value(letters, text[at + i]);
         match digit {
-            Hex::Number(d) => {
+            Read::Number(d) => {
                 n = n % 0x1000_0000 * 16 + d;
             }
-            Hex::NotHex => {
-                return Hex::NotHex;
+            Read::NotHex => {
+                return Read::NotHex;
             }
         }
         i += 1;
     }
-    Hex::Number(n)
+    Read::Number(n)
 }

@@ -8,7 +8,7 @@ use borrow.Author.Needs.{needs}
 use borrow.Author.Tests.{le-ltb, lt-ltb}
 use lib.ListN.{drop, getD, length, take}
 use Rattle.text.specs.Reading.{digitValue, lowLong, onward, value}
-use Rattle.text.specs.declared.reading.Hex.the-variants.{Number}
+use Rattle.text.specs.declared.reading.Read.the-variants.{Number}
 use Rattle.text.proofs.Values.{breaks-off, digit-small, ends, reads-on, still}
 use Rattle.text.proofs.reading.hex_value.Statement.{statement}
 use Rattle.text.proofs.reading.hex_value.Tie as tie
