@@ -148,7 +148,7 @@ fn rewrite_pc(
         Meaning::Branch(op, d) => branches::branch(op, d, pc, pr),
         Meaning::BranchTo(op, m) => branches::branch_to(op, m, pc, pr, r),
         Meaning::Return(op) => returns::return_by(op, sr, *pr, r, memory),
-        Meaning::Trapa(i) => Flow::Trap(i as u32),
+        Meaning::Trapa(i) => Flow::Trap(i),
         _ => Flow::Illegal,
     }
 }

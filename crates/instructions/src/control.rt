@@ -71,7 +71,7 @@ pub enum Flow {
     Delay(u32),
     Sleep,
     // TRAPA, with its vector number.
-    Trap(u32),
+    Trap(u8),
     // A data access that is misaligned or outside: the instruction has no effect at all.
     Fault,
     // An undefined word, or in a slot an instruction that rewrites the PC.

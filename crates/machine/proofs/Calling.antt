@@ -129,7 +129,8 @@ step-call-is-a-run-call-of-1 m memory = rw (step-is-a-run-of-1 (over m memory))
 -- Any two results that a promise allows coincide: what a call comes to tells the answer and the memory.
 refusalOf : ℕ → Refusal
 refusalOf number =
-    cond (eqb number 0) Accepted (cond (eqb number 1) Ragged (cond (eqb number 2) Size Status))
+    cond (eqb number (refusalNumber Accepted)) Accepted
+    (cond (eqb number (refusalNumber Ragged)) Ragged (cond (eqb number (refusalNumber Size)) Size Status))
 
 refusal-told : (why : Refusal) → refusalOf (refusalNumber why) ≡ why
 unfolding refusalOf

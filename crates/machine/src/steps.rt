@@ -117,7 +117,7 @@ fn in_slot(mode: Mode) -> bool
     }
 }
 
-fn illegal_number(mode: Mode) -> u32
+fn illegal_number(mode: Mode) -> u8
     ensures { λ k. ⌜ k ≡ Step.illegalNumber mode ⌝ }
 {
     if in_slot(mode) {

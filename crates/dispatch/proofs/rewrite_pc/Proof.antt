@@ -43,9 +43,6 @@ return-by-requires c κs = search needs
 enum-known-meaning-5 : tie.Need-enum-known-meaning-5
 enum-known-meaning-5 c = search needs
 
-cast-t25 : tie.Need-cast-t25
-cast-t25 c = search needs
-
 returns-2 : tie.Need-returns-2
 unfolding attempted
 returns-2 c = λ gbr vbr mach macl.
@@ -94,7 +91,6 @@ rewrite-pc-spec =
     enum-known-meaning-4
     return-by-requires
     enum-known-meaning-5
-    cast-t25
     returns-2
     returns-3
     returns-4

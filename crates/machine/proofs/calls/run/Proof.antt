@@ -11,7 +11,9 @@ returns c =
     (c .before .before .run-accepted .ensures)
 
 returns-2 : tie.Need-returns-2
-returns-2 c = call-refused (c .before .refused .result) _ _ _ (c .match .keys2) (c .before .refused .ensures)
+returns-2 c =
+    let p : tie.At-match-keys2 = search in
+    call-refused (p .before .refused .result) _ _ _ (p .match .keys2) (p .before .refused .ensures)
 
 pub run-spec : {M : Type 1} → statement M
 run-spec =
