@@ -237,10 +237,7 @@ pub attempt-changes-nothing :
     (slot : Bool) (x : Meaning) (pc : ℕ) (s : State) → Unchanged (attempted slot x pc s .flow) s (attempted slot x pc s .after)
 attempt-changes-nothing slot x pc s = attempts slot x pc s .unchanged
 
--- Only an instruction that rewrites the PC jumps, delays or traps; in a slot none does.
-pub only-rewriting-delays : (x : Meaning) (pc : ℕ) (s : State) → rewritesPc x ≡ false → Straight (execute x pc s .flow)
-only-rewriting-delays x pc s plain = rw plain at (orderly x pc s .allowed)
-
+-- In a slot nothing jumps, delays or traps.
 pub no-branch-in-slot : (x : Meaning) (pc : ℕ) (s : State) → Straight (attempted true x pc s .flow)
 no-branch-in-slot x pc s = attempts true x pc s .allowed
 
@@ -252,9 +249,6 @@ pub attempt-keeps-pc : (slot : Bool) (x : Meaning) (pc : ℕ) (s : State) → at
 attempt-keeps-pc slot x pc s = attempts slot x pc s .pc
 
 -- No instruction changes how long the memory is.
-pub length-stays : (x : Meaning) (pc : ℕ) (s : State) → length (execute x pc s .after .memory) ≡ length (s .memory)
-length-stays x pc s = orderly x pc s .size
-
 pub attempt-keeps-length :
     (slot : Bool) (x : Meaning) (pc : ℕ) (s : State) → length (attempted slot x pc s .after .memory) ≡ length (s .memory)
 attempt-keeps-length slot x pc s = attempts slot x pc s .size

@@ -340,10 +340,6 @@ executes (Return Rte) pc s fits below r =
 executes (Return Rts) pc s fits below r = delays (r .control .pr) r
 executes (Trapa i) pc s fits below r = record { after = r; target = tt }
 
-pub execute-in-range :
-    (x : Meaning) (pc : ℕ) (s : State) → T (within x) → pc < 2 ^ 32 → StateInRange s → EffectInRange (execute x pc s)
-execute-in-range = executes
-
 pub attempt-in-range :
     (slot : Bool) (x : Meaning) (pc : ℕ) (s : State) → T (within x) → pc < 2 ^ 32 → StateInRange s →
     EffectInRange (attempted slot x pc s)

@@ -74,15 +74,6 @@ module _ (k : ℕ) (memory : List ℕ) (address value : ℕ) where
       (a b : Stored) (l m : List ℕ) → Stores k memory address value a l → Stores k memory address value b m → (a ≡ b) × (l ≡ m)
   store-determined a b l m s t = (determined (s .answers) (t .answers), determined (s .leaves) (t .leaves))
 
-done-passed : (test : Bool) → cond test stores.Done stores.Fault ≡ stores.Done → test ≡ true
-done-passed true done = refl
-done-passed false done = cc
-
-pub store-succeeds :
-    (k : ℕ) (memory : List ℕ) (address : ℕ) → answered k memory address ≡ stores.Done → accessible k memory address ≡ true
-unfolding answered
-store-succeeds k memory address done = done-passed (accessible k memory address) done
-
 given-small : (test : Bool) (b n v : ℕ) → n < b → cond test (loads.Value n) loads.Fault ≡ loads.Value v → v < b
 given-small true b n v small given = let same : n ≡ v = cc in omega arith
 given-small false b n v small given = let never : _≡_ {A = ℕ} 0 1 = cc in omega arith
