@@ -43,7 +43,7 @@ called answer memory =
       ran = record { after = over (answer .machine) memory; steps = answer .steps };
     }
 
--- A call that is handed x and comes to this, unless its number says that it is refused: then "state as given, memory untouched, 0 steps".
+-- A call that is handed x, by the number of its refusal: 0 and it is done, any other and "state as given, memory untouched, 0 steps".
 abbrev pub calling : ℕ → Ran → Situation → Called
 calling number done x = record { refusal = number; ran = cond (eqb number 0) done (still x) }
 

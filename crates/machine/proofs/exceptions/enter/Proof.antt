@@ -15,31 +15,18 @@ use Rattle.machine.proofs.Entries.{enters, first-push-fails, second-pus
 use Rattle.machine.proofs.exceptions.enter.Statement.{statement}
 use Rattle.machine.proofs.exceptions.enter.Tie as tie
 
--- The places: where the three addresses are made, and behind it where a test is passed.
+-- The places: where the three addresses are made, and behind it where each test is passed.
 abbrev start : tie.After-wrapping-add-u32 → tie.Start
 start c = c .before .before .before .before .before .before
 
 abbrev made : tie.Else1 → tie.After-wrapping-add-u32
 made c = c .before .before .before
 
-first-opens : (c : tie.Else1) → accessible 4 (start (made c) .args .memory .now) (made c .before .before .before .wrapping-sub-u32 .result) ≡ true
-first-opens c = met (c .before .accessible .ensures) (not-false _ (c .if1 .left))
-
 abbrev first : tie.Else2 → tie.Else1
 first c = c .before .before .before
 
-second-opens :
-    (c : tie.Else2) →
-    let p = made (first c) in accessible 4 (start p .args .memory .now) (p .before .wrapping-sub-u322 .result) ≡ true
-second-opens c = met (c .before .accessible2 .ensures) (not-false _ (c .if2 .left))
-
 abbrev second : tie.Else3 → tie.Else2
 second c = c .before .before .before
-
-vector-opens :
-    (c : tie.Else3) →
-    let p = made (first (second c)) in accessible 4 (start p .args .memory .now) (p .wrapping-add-u32 .result) ≡ true
-vector-opens c = met (c .before .accessible3 .ensures) (not-false _ (c .if3 .left))
 
 module _ (gbr pr mach macl : ℕ) (c : tie.After-wrapping-add-u32) where
   abbrev entry : State
@@ -68,6 +55,20 @@ returns-2 c = λ gbr pr mach macl.
     second-push-fails (a .number) (a .saved) (a .sr) (entry gbr pr mach macl p)
     (at-sr gbr pr mach macl p) (at-pc gbr pr mach macl p) (p .wrapping-add-u32 .ensures)
     (met (c .before .accessible2 .ensures) (not-true _ (c .if2 .taken)))
+
+-- What a passed test says.
+first-opens : (c : tie.Else1) → accessible 4 (start (made c) .args .memory .now) (made c .before .before .before .wrapping-sub-u32 .result) ≡ true
+first-opens c = met (c .before .accessible .ensures) (not-false _ (c .if1 .left))
+
+second-opens :
+    (c : tie.Else2) →
+    let p = made (first c) in accessible 4 (start p .args .memory .now) (p .before .wrapping-sub-u322 .result) ≡ true
+second-opens c = met (c .before .accessible2 .ensures) (not-false _ (c .if2 .left))
+
+vector-opens :
+    (c : tie.Else3) →
+    let p = made (first (second c)) in accessible 4 (start p .args .memory .now) (p .wrapping-add-u32 .result) ≡ true
+vector-opens c = met (c .before .accessible3 .ensures) (not-false _ (c .if3 .left))
 
 returns-3 : tie.Need-returns-3
 returns-3 c = λ gbr pr mach macl.
