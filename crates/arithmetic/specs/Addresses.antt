@@ -1,6 +1,6 @@
 -- Addresses counted from PC: document 01, "Branch addresses" and "PC-relative data". With A the instruction's own address, its PC is
 -- A + 4: "PC = 4; means the instruction starts execution from address 0" (document 000, section 6.1).
-use Prim.Native.Nat.{ℕ, _+_, _*_, _/_, _^_}
+use Prim.Native.Nat.{ℕ, _+_, _*_, _/_}
 use lib.IntN.{pos, _*ℤ_}
 use Rattle.numbers.specs.Numbers.{low32, signed, lowLong}
 

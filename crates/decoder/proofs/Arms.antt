@@ -6,7 +6,7 @@ use mathlib.Core.List.{List, [], _∷_}
 use Prim.Native.Nat.{ℕ, _/_, _%_}
 use borrow.Author.Tests.{ne-eqb}
 use lib.Dec.{T, T-not, eqb, eqb-refl}
-use Rattle.decoder.specs.Pattern.{Group, fixed, part, Code, Nibbles, nibbles, agrees, code, matches}
+use Rattle.decoder.specs.Pattern.{Group, fixed, part, Code, nibbles, agrees, code, matches}
 use Rattle.decoder.specs.Code.{meaning, among}
 use Rattle.decoder.specs.Table.{Row, table}
 use Rattle.decoder.specs.declared.meaning.Meaning.{Meaning}

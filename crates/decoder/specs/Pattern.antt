@@ -1,6 +1,6 @@
 -- A code pattern of document 000, as "0011nnnnmmmm1100": what it fixes of a word, and what it reads from one.
 -- Section 5.1: mmmm is the source register, nnnn the destination register, iiii an immediate, dddd a displacement.
-use mathlib.Core.Bool.{Bool, true, false, _&&_, _||_, cond}
+use mathlib.Core.Bool.{Bool, true, _&&_, _||_, cond}
 use mathlib.Core.List.{List, [], _∷_}
 use Prim.Native.Nat.{ℕ, _+_, _*_, _/_, _%_}
 use Prim.Native.String.{String, slice}

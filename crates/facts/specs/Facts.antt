@@ -16,7 +16,7 @@ use Rattle.decoder.specs.declared.meaning.OneRegister.the-variants.{Dt, Rotcr, 
 use Rattle.decoder.specs.declared.meaning.TwoRegisters.the-variants.{Addv, ExtsB, Negc}
 use Rattle.instructions.specs.Execute.{execute}
 use Rattle.instructions.specs.Shapes.{Effect}
-use Rattle.instructions.specs.State.{State, control, qBit, reg, tBit}
+use Rattle.instructions.specs.State.{control, qBit, reg, tBit}
 use Rattle.instructions.specs.declared.control.Flow.{Flow}
 use Rattle.instructions.specs.declared.control.Flow.the-variants.{Next, Jump, Delay, Sleep, Trap, Fault, Illegal}
 

@@ -11,7 +11,7 @@ use lib.Dec.{T, eqb, ltb→lt}
 use lib.IntN.{_*ℤ_}
 use lib.Signed.{shrZ}
 use lib.ListN.{getD, length, length-set, set}
-use Rattle.numbers.specs.Numbers.{signedByte, signedWord, signedLong, low32, truth}
+use Rattle.numbers.specs.Numbers.{signedByte, signedWord, signedLong, truth}
 use Rattle.memory.specs.Access.{accessible, loaded, written}
 use Rattle.memory.proofs.Bytes.{Bytes, written-bytes}
 use Rattle.memory.proofs.Laws.{load-small}

@@ -1,6 +1,5 @@
 -- The shapes of the instructions' effects, which the clauses of Execute.antt fill in.
 use mathlib.Core.Bool.{cond}
-use mathlib.Core.List.{List}
 use Prim.Native.Nat.{ℕ, _+_}
 use Rattle.numbers.specs.Numbers.{low32}
 use Rattle.numbers.specs.declared.WithT.{WithT}
