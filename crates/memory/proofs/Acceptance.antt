@@ -6,7 +6,7 @@ use mathlib.Core.List.{List, [], _∷_, _++_, map}
 use Prim.Native.Nat.{ℕ, _%_, _≤_}
 use lib.Dec.{eqb, ltb}
 use borrow.Author.Tests.{ltb-false}
-use Rattle.memory.specs.Lengths.{Test, first, lengthTests, refusedLength, test}
+use Rattle.memory.specs.Lengths.{Test, first, refusedLength, test}
 
 -- "Length 1,022 is 1; length 0 and 1,020 are 2; 1,024 and 16,777,216 pass."
 pub five-lengths : map refusedLength (1022 ∷ 0 ∷ 1020 ∷ 1024 ∷ 16777216 ∷ []) ≡ 1 ∷ 2 ∷ 2 ∷ 0 ∷ 0 ∷ []
