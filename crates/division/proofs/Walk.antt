@@ -5,8 +5,6 @@ use mathlib.Core.Path.{_≡_, refl, sym, subst, subst₂}
 use mathlib.Core.List.{List}
 use Prim.Native.Nat.{ℕ, zero, suc, _+_, _*_, _%_, _^_, _<_}
 use native.Mathlib.Omega.{arith}
-use borrow.Author.Tests.{eq-eqb}
-use Rattle.instructions.specs.State.{masked}
 use Rattle.machine.specs.declared.Machine.{Machine}
 use Rattle.machine.specs.declared.Mode.the-variants.{Running}
 use Rattle.machine.specs.Situation.{Situation, at, machineOf, over}
@@ -15,7 +13,7 @@ use Rattle.division.specs.Division.{pairs, Words, Premises}
 use Rattle.division.proofs.Steps.{Steps, none, another, InRange, in-range, div1-t-bit}
 use Rattle.division.proofs.LowHalf as half
 use Rattle.division.proofs.LowHalf.{LowHalf}
-use Rattle.division.proofs.Status.{status, keeps-mask}
+use Rattle.division.proofs.Status.{keeps-mask}
 use Rattle.division.proofs.Instructions.{Place, afterRotcl, afterDiv1, before, here, Sound, first, div0u-step, rotcl-step, div1-step}
 use Rattle.division.proofs.Through.{Accepts, Through, there, onward}
 

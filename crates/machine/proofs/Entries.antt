@@ -11,7 +11,7 @@ use Rattle.memory.specs.declared.Loaded.the-variants as loads
 use Rattle.memory.proofs.Laws.{accessible-after-store, store-writes}
 use Rattle.instructions.specs.State.{State, changed, withMemory, withPc, withReg, withSr}
 use Rattle.machine.specs.declared.Mode.the-variants.{Running}
-use Rattle.machine.specs.Situation.{Situation, at, stopped}
+use Rattle.machine.specs.Situation.{at, stopped}
 use Rattle.machine.specs.Exceptions.{belowR15, enter, entered, entryTests, pushed, vector}
 use Rattle.machine.specs.Longs.{modeValue}
 

@@ -6,10 +6,10 @@ use Prim.Native.Nat.{ℕ, _+_, _-_, _<_, _≤_}
 use native.Mathlib.Omega.{arith}
 use lib.ListN.{length}
 use Rattle.machine.specs.Situation.{Situation}
-use Rattle.machine.specs.Run.{Ran, run, still, oneMore}
+use Rattle.machine.specs.Run.{Ran, run}
 use Rattle.machine.specs.Step.{halted, step}
 use Rattle.machine.proofs.Ranges.{step-keeps-length}
-use Rattle.machine.proofs.Runs.{followed, run-halted, run-plus, run-suc}
+use Rattle.machine.proofs.Runs.{run-halted, run-plus}
 
 abbrev pub having : ℕ → Situation → Ran
 having taken x = record { after = x; steps = taken }

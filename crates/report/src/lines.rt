@@ -6,7 +6,6 @@ use machine::Mode;
 use text::decimal;
 use text::hex;
 use text::write;
-ghost use mathlib.Core.Path.{_≡_};
 ghost use mathlib.Core.List.{_++_};
 ghost use Rattle.machine.specs.Calls.{refusalNumber};
 ghost use Rattle.report.specs.Report as Report;

@@ -1,6 +1,6 @@
 -- `step` is a run with budget 1.
 -- Assumes nothing.
-use mathlib.Core.Path.{sym, _∙_}
+use mathlib.Core.Path.{_∙_}
 use Rattle.machine.proofs.Calling.{step-call-is-a-run-call-of-1}
 use borrow.Author.Needs.{needs}
 use Rattle.machine.proofs.calls.step.Statement.{statement}

@@ -1,6 +1,5 @@
 -- `run_accepted` takes steps while the budget lasts and the machine is not halted, which is what a run is.
 -- Assumes nothing.
-use mathlib.Core.Path.{sym, _∙_}
 use Prim.Native.Nat.{_-_}
 use native.Mathlib.Omega.{arith}
 use borrow.Author.Needs.{needs}
