@@ -24,7 +24,7 @@ Enters number saved pc sr vbr r memory mode pc' r' memory' =
     raise number saved (state r (control pc sr gbr vbr pr mach macl) memory) ≡
     at mode (state r' (control pc' sr gbr vbr pr mach macl) memory')
 
--- A delayed branch comes from a running machine alone: in a slot it is illegal.
+-- What can come of an attempt: in a slot nothing jumps, delays or traps, and a halted machine attempts nothing.
 abbrev pub Admits : Mode → Flow → Type 0
 Admits Running flow = Unit {0}
 Admits (Slot target) Next = Unit {0}

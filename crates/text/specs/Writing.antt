@@ -1,4 +1,4 @@
--- Writing into a lent buffer: as much as it holds, from where the writing stands. The private functions' promises.
+-- Writing into a lent buffer: as much as it holds, from where the writing stands. What the functions that write promise.
 use mathlib.Core.Path.{_≡_}
 use mathlib.Core.Bool.{cond}
 use mathlib.Core.List.{List, [], _∷_}
