@@ -19,7 +19,7 @@ pub fn branch(a: u32, d: u8) -> u32
     displaced(following(a), numbers::signed(d as u32, 0x80))
 }
 
-// A branch by a 12-bit displacement, of which a number has no bit above the twelve.
+// A branch by a 12-bit displacement: the decoder gives d no bit above the twelve.
 pub fn long_branch(a: u32, d: u16) -> u32
     ensures { λ r. ⌜ r ≡ Addresses.branch (2 ^ 11) (Addresses.following a) d ⌝ }
 {

@@ -16,7 +16,7 @@ pub enum Meaning {
     Compare(Compare, u8, u8),
     // M, Q and T, and Rn for DIV1, from Rm, Rn, M, Q and T.
     Divide(Divide, u8, u8),
-    // MACH and MACL from Rm and Rn.
+    // MACL from Rm and Rn, and MACH for DMULS.L and DMULU.L.
     Multiply(Multiply, u8, u8),
     // MACH and MACL from themselves and from memory at Rm and Rn, which both step on.
     MultiplyAdd(MultiplyAdd, u8, u8),

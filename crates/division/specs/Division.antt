@@ -5,6 +5,7 @@ use mathlib.Core.List.{List, [], _∷_}
 use Prim.Native.Nat.{ℕ, zero, suc, _+_, _*_, _-_, _/_, _%_, _^_, _≤_, _<_}
 use lib.ListN.{length, getD, replicate}
 use Rattle.numbers.specs.Numbers.{low32}
+use Rattle.arithmetic.specs.Logic.{complement}
 use Rattle.memory.specs.Access.{valueAt}
 use Rattle.instructions.specs.State.{State, reg, tBit, sBit, qBit, mBit, masked}
 use Rattle.machine.specs.declared.Answer.{Answer}
@@ -111,7 +112,7 @@ pub record Divided (before after : Values) : Type 0 where
 
 -- After, where the divisor is 0: "low is the old high complemented, high the old low, Q the old high's lowest bit"
 pub record Complemented (before after : Values) : Type 0 where
-  pub low : after .low ≡ 2 ^ 32 - 1 - before .high
+  pub low : after .low ≡ complement (before .high)
   pub high : after .high ≡ before .low
   pub q : after .q ≡ before .high % 2
 

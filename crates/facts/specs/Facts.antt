@@ -28,10 +28,10 @@ pub record Fact : Type 0 where
 abbrev fact : String → List ℕ → List ℕ → Fact
 fact s g t = record { name = s; given = g; stated = t }
 
--- The instruction, in a machine with Rm in R1, Rn in R2 and this SR, of which T is bit 0; all else is 0. It stands at H'200.
+-- The instruction, at H'200, in a machine with Rm in R1, Rn in R2 and this SR, of which T is bit 0; all else is 0.
 abbrev after : Meaning → (m n sr : ℕ) → Effect
 after x m n sr =
-    execute x (following 0x200) (record { registers = 0 ∷ m ∷ n ∷ []; control = control 0 sr 0 0 0 0 0; memory = [] })
+    execute x (following 0x200) (record { registers = 0 ∷ m ∷ n ∷ []; control = control 0x200 sr 0 0 0 0 0; memory = [] })
 
 abbrev rn : Effect → List ℕ
 rn e = reg 2 (e .after) ∷ []

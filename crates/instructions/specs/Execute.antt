@@ -1,7 +1,8 @@
 -- What each instruction does, in the order of document 000 (Table 5.9), one clause an instruction, under its section of chapter 6, its
--- line and its operation in short. The state s is that before the instruction: Rm, Rn, T and the rest are its values there. PC is
--- what the instruction takes for it in its own address arithmetic, as the step gives it (Step.antt); the state's own PC no clause reads
--- or writes. An address is in brackets for what stands there: (Rm) is the operand at Rm.
+-- line and its operation in short. The state s is that before the instruction: Rm, Rn, T and the rest are its values there. `pc` is what the
+-- instruction takes for PC in its own address arithmetic, as the step gives it (Step.antt); the machine's PC, which stands behind an
+-- arrow, the step alone sets, and no clause reads or writes the state's. An operand is in brackets: (Rm) is what stands at the address Rm.
+-- Where the line has R0 and the clause n or m, the row of the code table gives that number as 0.
 use mathlib.Core.Bool.{Bool, _&&_, cond}
 use Prim.Native.Nat.{ℕ, _+_, _*_, _^_}
 use lib.Bits.{bitAnd, bitOr, bitXor}
@@ -42,7 +43,7 @@ use Rattle.instructions.specs.State.{State, reg, withReg, changed, tBit,
 use Rattle.instructions.specs.Shapes.{Effect, leads, next, gives, givesT, tells, givesMacl, givesMac, loading, storing, storingAnd, incremented, minus}
 
 unfoldable pub execute : Meaning → (pc : ℕ) → State → Effect
--- 6.2 ADD #imm,Rn: Rn + imm -> Rn
+-- 6.2 ADD #imm,Rn: Rn + imm, sign-extended -> Rn
 execute (Immediate AddImm i n) pc s = gives n (add (extsB i) (reg n s)) s
 -- 6.2 ADD Rm,Rn: Rn + Rm -> Rn
 execute (TwoRegisters Add m n) pc s = gives n (add (reg m s) (reg n s)) s
@@ -78,7 +79,7 @@ execute (BranchIf BtS d) pc s = leads (cond (eqb (tBit s) 1) (Delay (branch (2 ^
 execute (NoOperand Clrmac) pc s = next (changed (withMac 0 0) s)
 -- 6.15 CLRT: 0 -> T
 execute (NoOperand Clrt) pc s = tells 0 s
--- 6.16 CMP/EQ #imm,R0: R0 = imm -> T
+-- 6.16 CMP/EQ #imm,R0: R0 = imm, sign-extended -> T
 execute (ImmediateR0 CmpEqImm i) pc s = tells (cmpEq (extsB i) (reg 0 s)) s
 -- 6.16 CMP/EQ Rm,Rn: Rn = Rm -> T
 execute (Compare CmpEq m n) pc s = tells (cmpEq (reg m s) (reg n s)) s
@@ -154,14 +155,16 @@ execute (LoadControlLong Macl m) pc s =
 -- 6.28 LDS.L @Rm+,PR: (Rm) -> PR, Rm + 4 -> Rm
 execute (LoadControlLong Pr m) pc s =
     loading 4 (reg m s) s (λ v. next (changed (withPr v) (incremented 4 m s)))
--- 6.29 MAC.L @Rm+,@Rn+: (Rn) x (Rm) + MAC -> MAC; @Rn is read first, Rn + 4 -> Rn, then @Rm, Rm + 4 -> Rm
+-- 6.29 MAC.L @Rm+,@Rn+: (Rn) x (Rm), signed, + MAC -> MAC, held if S = 1; @Rn is read first, Rn + 4 -> Rn, then @Rm, Rm + 4 -> Rm
 execute (MultiplyAdd MacL m n) pc s =
-    let t = incremented 4 n s in
-    loading 4 (reg n s) s (λ b. loading 4 (reg m t) s (λ a. givesMac (macL (mac s) (sBit s) a b) (incremented 4 m t)))
--- 6.31 MAC.W @Rm+,@Rn+: (Rn) x (Rm) + MAC -> MAC; @Rn is read first, Rn + 2 -> Rn, then @Rm, Rm + 2 -> Rm
+    let rnStepped = incremented 4 n s in
+    loading 4 (reg n s) s
+    (λ b. loading 4 (reg m rnStepped) s (λ a. givesMac (macL (mac s) (sBit s) a b) (incremented 4 m rnStepped)))
+-- 6.31 MAC.W @Rm+,@Rn+: (Rn) x (Rm), signed, + MAC -> MAC, held if S = 1; @Rn is read first, Rn + 2 -> Rn, then @Rm, Rm + 2 -> Rm
 execute (MultiplyAdd MacW m n) pc s =
-    let t = incremented 2 n s in
-    loading 2 (reg n s) s (λ b. loading 2 (reg m t) s (λ a. givesMac (macW (mac s) (sBit s) a b) (incremented 2 m t)))
+    let rnStepped = incremented 2 n s in
+    loading 2 (reg n s) s
+    (λ b. loading 2 (reg m rnStepped) s (λ a. givesMac (macW (mac s) (sBit s) a b) (incremented 2 m rnStepped)))
 -- 6.33 MOV #imm,Rn: imm -> sign extension -> Rn
 execute (Immediate MovImm i n) pc s = gives n (extsB i) s
 -- 6.32 MOV Rm,Rn: Rm -> Rn
@@ -196,7 +199,7 @@ execute (Store Byte m (Indirect n)) pc s = storing 1 (reg n s) (reg m s) s
 -- 6.34 MOV.L @(disp,GBR),R0: (disp x 4 + GBR) -> R0
 execute (Load Long (GbrDisplacement d) n) pc s =
     loading 4 (low32 (s .control .gbr + d * 4)) s (λ v. gives n v s)
--- 6.33 MOV.L @(disp,PC),Rn: (PC & H'FFFFFFFC + disp x 4) -> Rn
+-- 6.33 MOV.L @(disp,PC),Rn: ((PC & H'FFFFFFFC) + disp x 4) -> Rn
 execute (Relative MovL d n) pc s = loading 4 (relativeLong pc d) s (λ v. gives n v s)
 -- 6.35 MOV.L @(disp,Rm),Rn: (disp x 4 + Rm) -> Rn
 execute (Load Long (Displacement d m) n) pc s =
@@ -251,7 +254,7 @@ execute (StoreDecrement Word m n) pc s =
     storingAnd 2 a (reg m s) s (withReg n a)
 -- 6.32 MOV.W Rm,@Rn: Rm -> (Rn)
 execute (Store Word m (Indirect n)) pc s = storing 2 (reg n s) (reg m s) s
--- 6.36 MOVA @(disp,PC),R0: PC & H'FFFFFFFC + disp x 4 -> R0
+-- 6.36 MOVA @(disp,PC),R0: (PC & H'FFFFFFFC) + disp x 4 -> R0
 execute (Relative Mova d n) pc s = gives n (relativeLong pc d) s
 -- 6.37 MOVT Rn: T -> Rn
 execute (OneRegister Movt n) pc s = gives n (movt (tBit s)) s

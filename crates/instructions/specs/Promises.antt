@@ -1,4 +1,4 @@
--- What the functions below `execute` promise: the clause of their instruction.
+-- What the functions of the instructions promise: the clause of their instruction.
 use mathlib.Core.Path.{_≡_}
 use mathlib.Core.Bool.{Bool}
 use mathlib.Core.List.{List}
@@ -30,7 +30,7 @@ use Rattle.instructions.specs.State.{State, reg, tBit, masked, withSr, w
 abbrev pub state : List ℕ → Control → List ℕ → State
 state r c memory = record { registers = r; control = c; memory = memory }
 
--- From these registers and this memory, the instruction, which stands where PC points, leads where it says with those.
+-- The instruction, which stands at the address in PC, turns these registers and this memory into those, and leads on by this flow.
 abbrev pub Performs : Meaning → Control → List ℕ → List ℕ → Flow → Control → List ℕ → List ℕ → Type 0
 Performs x c r memory f d q after = execute x (following (c .pc)) (state r c memory) ≡ leads f (state q d after)
 
@@ -69,7 +69,8 @@ Gives x a b t w =
 abbrev pub keeping : ℕ → ℕ → WithT
 keeping v t = record { value = v; t = t }
 
--- The bytes of a size, what a load of it puts into a register, and the effective address of an operand of that size.
+-- The bytes of a size; what a load of it puts into a register, of a value and of what was loaded; the effective address of an operand of that
+-- size.
 abbrev pub bytes : Size → ℕ
 bytes Byte = 1
 bytes Word = 2

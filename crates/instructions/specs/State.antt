@@ -22,7 +22,7 @@ withReg n v s = record { registers = set (s .registers) (n % 16) v; control = s 
 abbrev pub withMemory : List ℕ → State → State
 withMemory m s = record { registers = s .registers; control = s .control; memory = m }
 
--- The control registers changed by f.
+-- The control and system registers (document 000, sections 2.2 and 2.3) changed by f.
 abbrev pub changed : (Control → Control) → State → State
 changed f s = record { registers = s .registers; control = f (s .control); memory = s .memory }
 
@@ -46,7 +46,7 @@ mac s = record { mach = s .control .mach; macl = s .control .macl }
 abbrev pub masked : ℕ → ℕ
 masked x = bitAnd x 0x3f3
 
--- The control registers by name.
+-- The control and system registers by name.
 abbrev pub control : (pc sr gbr vbr pr mach macl : ℕ) → Control
 control pc sr gbr vbr pr mach macl =
     record { pc = pc; sr = sr; gbr = gbr; vbr = vbr; pr = pr; mach = mach; macl = macl }

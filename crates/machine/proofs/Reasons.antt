@@ -14,8 +14,9 @@ use Rattle.instructions.specs.declared.control.Flow.the-variants.{Next, Jump, D
 use Rattle.instructions.proofs.Effects.{Straight, no-branch-in-slot}
 use Rattle.machine.specs.Situation.{Situation}
 use Rattle.machine.specs.Exceptions.{raise, savedPc, addressError}
+use Rattle.machine.specs.Longs.{modeValue}
 use Rattle.machine.specs.Run.{run}
-use Rattle.machine.specs.Step.{step, halted, inSlot, illegalNumber, nextPc, settle, fetched, pcOf}
+use Rattle.machine.specs.Step.{step, halted, inSlot, illegalNumber, delayed, nextPc, settle, fetched, pcOf}
 use Rattle.machine.specs.declared.Mode.{Mode}
 use Rattle.machine.specs.declared.Mode.the-variants.{Running, Slot, Asleep, Stopped}
 use Rattle.machine.specs.declared.Stop.the-variants.{Push, Vector, Branch}
@@ -88,6 +89,10 @@ was Asleep after keeps stopped = absurd (rw stopped at (keeps tt))
 was (Stopped Push) after keeps stopped = absurd (rw stopped at (keeps tt))
 was (Stopped Vector) after keeps stopped = absurd (rw stopped at (keeps tt))
 was (Stopped Branch) after keeps stopped = refl
+
+-- Where it stands in the definition it has document 01's number.
+pub delay-numbered : (waiting target : ℕ) (before after : State) → modeValue (delayed (Slot waiting) target before after .mode) ≡ 3
+delay-numbered waiting target before after = refl
 
 pub never-reason-3 : (x : Situation) → step x .mode ≡ Stopped Branch → x .mode ≡ Stopped Branch
 never-reason-3 x = was (x .mode) (step x .mode) (steps x)

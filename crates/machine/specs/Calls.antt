@@ -6,7 +6,7 @@ use Prim.Native.Nat.{ℕ}
 use lib.Dec.{eqb}
 use lib.ListN.{length, replicate, set}
 use Rattle.memory.specs.Access.{valueAt}
-use Rattle.memory.specs.Lengths.{first, lengthTests, refusedLength, test}
+use Rattle.memory.specs.Lengths.{Test, first, lengthTests, test}
 use Rattle.instructions.specs.State.{control, masked, withPc, withSr, withVbr}
 use Rattle.machine.specs.declared.Answer.{Answer}
 use Rattle.machine.specs.declared.Machine.{Machine}
@@ -71,8 +71,11 @@ start m memory =
 abbrev pub resetBy : ℕ → List ℕ → Called
 resetBy number memory = calling number (still (over (start blank memory) memory)) (over blank memory)
 
+abbrev pub resetTests : List ℕ → List Test
+resetTests memory = lengthTests (length memory)
+
 abbrev pub resetCall : List ℕ → Called
-resetCall memory = resetBy (refusedLength (length memory)) memory
+resetCall memory = resetBy (first (resetTests memory)) memory
 
 -- The promises of the public operations: document 01's number of the refusal, and machine, steps and memory those of the definition.
 abbrev pub Resets : List ℕ → Answer → Type 0

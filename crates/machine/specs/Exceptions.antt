@@ -12,12 +12,16 @@ use Rattle.machine.specs.declared.Mode.{Mode}
 use Rattle.machine.specs.declared.Mode.the-variants.{Running, Slot, Asleep, Stopped}
 use Rattle.machine.specs.Situation.{Situation, at, stopped}
 
+-- In a slot the target.
+abbrev pub targetOr : Mode → ℕ → ℕ
+targetOr (Slot target) other = target
+targetOr Running other = other
+targetOr Asleep other = other
+targetOr (Stopped reason) other = other
+
 -- "Saved PC: in a slot, always the target."
 abbrev pub savedPc : Mode → ℕ → ℕ
-savedPc (Slot target) other = target
-savedPc Running other = other
-savedPc Asleep other = other
-savedPc (Stopped reason) other = other
+savedPc mode other = targetOr mode other
 
 -- R15-4 and R15-8
 abbrev pub belowR15 : ℕ → State → ℕ

@@ -16,14 +16,14 @@ use Rattle.instructions.specs.declared.control.Flow.the-variants.{Next, Jump, D
 use Rattle.machine.specs.declared.Mode.{Mode}
 use Rattle.machine.specs.declared.Mode.the-variants.{Running, Slot, Asleep, Stopped}
 use Rattle.machine.specs.Situation.{Situation, at, stopped}
-use Rattle.machine.specs.Exceptions.{savedPc, raise, generalIllegal, illegalSlot, addressError}
+use Rattle.machine.specs.Exceptions.{targetOr, savedPc, raise, generalIllegal, illegalSlot, addressError}
 
 -- The next word; in a slot the target.
 abbrev pub nextWord : State → ℕ
 nextWord s = low32 (s .control .pc + 2)
 
 abbrev pub nextPc : Mode → State → ℕ
-nextPc mode s = savedPc mode (nextWord s)
+nextPc mode s = targetOr mode (nextWord s)
 
 -- Item 3, "In a slot: an undefined word, or one that rewrites the PC, is an illegal slot. Not in a slot: an undefined word is a general
 -- illegal instruction."

@@ -9,7 +9,6 @@ use native.Mathlib.Omega.{arith}
 use lib.ListN.{length, getD}
 use Rattle.memory.specs.declared.Loaded.the-variants as loads
 use Rattle.memory.specs.declared.Stored.{Stored}
-use Rattle.memory.specs.declared.Stored.the-variants as stores
 use Rattle.memory.specs.Access.{accessible, valueAt, loaded, written, storedAt, Stores}
 use Rattle.memory.proofs.Tests.{inside}
 use Rattle.memory.proofs.Bytes.{Bytes, Apart, length-written, written-elsewhere, written-bytes, value-same, value-written, value-small}

@@ -4,7 +4,7 @@ use mathlib.Core.List.{List, [], _∷_}
 use Prim.Native.Nat.{ℕ, _%_}
 use lib.Dec.{eqb, ltb}
 
--- A refusal's number, and whether it is given.
+-- The number of a refusal, or of a stop's reason, and whether it is given.
 pub record Test : Type 0 where
   pub number : ℕ
   pub given : Bool

@@ -6,9 +6,9 @@ use Prim.Native.Nat.{ℕ, zero, suc, _≤_, min}
 use lib.Dec.{eqb, ltb}
 use lib.ListN.{drop, getD, length, replicate, take}
 use Rattle.instructions.specs.declared.control.Control.{Control}
-use Rattle.memory.specs.Lengths.{first, lengthTests, test}
+use Rattle.memory.specs.Lengths.{first, test}
 use Rattle.machine.specs.Situation.{machineOf, reasonNumber}
-use Rattle.machine.specs.Calls.{Called, resetBy, runCall}
+use Rattle.machine.specs.Calls.{Called, resetBy, resetTests, runCall}
 use Rattle.machine.specs.declared.Machine.{Machine}
 use Rattle.machine.specs.declared.Mode.{Mode}
 use Rattle.machine.specs.declared.Mode.the-variants.{Running, Slot, Asleep, Stopped}
@@ -16,7 +16,7 @@ use Rattle.text.specs.Text.{ascii, decimal, hex, lineFeed}
 
 -- "an image of at most 65,536 bytes ... Longer input counts as refusal 2, also where its length is no multiple of 4."
 abbrev pub refusedImage : List ℕ → ℕ
-refusedImage image = first (test 2 (ltb 65536 (length image)) ∷ lengthTests (length image))
+refusedImage image = first (test 2 (ltb 65536 (length image)) ∷ resetTests image)
 
 -- "resets, runs with budget 1,000,000"
 abbrev pub runFrom : Called → List ℕ → Called
