@@ -10,7 +10,7 @@ use borrow.Author.Tests.{le-leb, leb-true, le-ltb, lt-leb, lt-ltb, ltb-false, lt
 use lib.Dec.{leb, ltb}
 use lib.ListN.{drop, getD, length, take}
 use lib.Seq.{drop-cons}
-use Rattle.text.specs.Reading.{andThen, between, digitValue, lowLong, onward, value}
+use Rattle.text.specs.Reading.{andThen, between, digitValue, cutToLong, readOn, value}
 use Rattle.text.specs.Text.{digit, hexIn}
 use Rattle.text.specs.declared.digits.Case.{Case}
 use Rattle.text.specs.declared.digits.Case.the-variants.{Lower, Upper}
@@ -65,12 +65,12 @@ either-way P NotHex f n = n
 -- Of the number so far only the low 32 bits matter for the low 32 bits of the whole.
 same-low :
     (letters : Letters) (text : List ℕ) (a b : ℕ) → a % 2 ^ 32 ≡ b % 2 ^ 32 →
-    lowLong (onward letters a text) ≡ lowLong (onward letters b text)
-unfolding onward
+    cutToLong (readOn letters a text) ≡ cutToLong (readOn letters b text)
+unfolding readOn
 same-low letters [] a b e = ap Number e
 same-low letters (byte ∷ rest) a b e =
     either-way
-    (λ h. lowLong (andThen h (λ d. onward letters (a * 16 + d) rest)) ≡ lowLong (andThen h (λ d. onward letters (b * 16 + d) rest)))
+    (λ h. cutToLong (andThen h (λ d. readOn letters (a * 16 + d) rest)) ≡ cutToLong (andThen h (λ d. readOn letters (b * 16 + d) rest)))
     (digitValue letters byte) (λ d. same-low letters rest (a * 16 + d) (b * 16 + d) (omega arith)) refl
 
 -- The digits still to be read of the k at a place, after i of them.
@@ -86,21 +86,21 @@ one-more text at k i more inside =
 pub reads-on :
     (letters : Letters) (text : List ℕ) (at k i n : ℕ) {d : ℕ} → i < k → at + i < length text →
     Number d ≡ digitValue letters (getD text (at + i) 0) →
-    lowLong (onward letters (n % 0x1000_0000 * 16 + d) (still text at k (i + 1))) ≡ lowLong (onward letters n (still text at k i))
-unfolding onward
+    cutToLong (readOn letters (n % 0x1000_0000 * 16 + d) (still text at k (i + 1))) ≡ cutToLong (readOn letters n (still text at k i))
+unfolding readOn
 reads-on letters text at k i n {d} more inside e =
     rw (one-more text at k i more inside, sym e)
     (same-low letters (still text at k (i + 1)) (n % 0x1000_0000 * 16 + d) (n * 16 + d) (omega arith))
 
 pub breaks-off :
     (letters : Letters) (text : List ℕ) (at k i n : ℕ) → i < k → at + i < length text →
-    NotHex ≡ digitValue letters (getD text (at + i) 0) → NotHex ≡ lowLong (onward letters n (still text at k i))
-unfolding onward
+    NotHex ≡ digitValue letters (getD text (at + i) 0) → NotHex ≡ cutToLong (readOn letters n (still text at k i))
+unfolding readOn
 breaks-off letters text at k i n more inside e = rw (one-more text at k i more inside, sym e)
 
 pub ends :
-    (letters : Letters) (text : List ℕ) (at k i n : ℕ) → k ≤ i → n < 2 ^ 32 → Number n ≡ lowLong (onward letters n (still text at k i))
-unfolding onward
+    (letters : Letters) (text : List ℕ) (at k i n : ℕ) → k ≤ i → n < 2 ^ 32 → Number n ≡ cutToLong (readOn letters n (still text at k i))
+unfolding readOn
 ends letters text at k i n done small = let none : k - i ≡ 0 = omega arith in rw (none, mod-eq-of-lt small)
 
 -- Whether digits written in this case are read.
@@ -136,15 +136,15 @@ digit-back letters case e d g = go (ltb d 10) refl
     go true h = figure-back letters case d (ltb-true d 10 h)
     go false h = letter-back letters case e d (ltb-false d 10 h) g
 
-onward-append :
-    (letters : Letters) (n : ℕ) (x y : List ℕ) → onward letters n (x ++ y) ≡ andThen (onward letters n x) (λ m. onward letters m y)
-unfolding onward
-onward-append letters n [] y = refl
-onward-append letters n (byte ∷ x) y =
+read-on-append :
+    (letters : Letters) (n : ℕ) (x y : List ℕ) → readOn letters n (x ++ y) ≡ andThen (readOn letters n x) (λ m. readOn letters m y)
+unfolding readOn
+read-on-append letters n [] y = refl
+read-on-append letters n (byte ∷ x) y =
     either-way
-    (λ h. andThen h (λ d. onward letters (n * 16 + d) (x ++ y)) ≡
-    andThen (andThen h (λ d. onward letters (n * 16 + d) x)) (λ m. onward letters m y))
-    (digitValue letters byte) (λ d. onward-append letters (n * 16 + d) x y) refl
+    (λ h. andThen h (λ d. readOn letters (n * 16 + d) (x ++ y)) ≡
+    andThen (andThen h (λ d. readOn letters (n * 16 + d) x)) (λ m. readOn letters m y))
+    (digitValue letters byte) (λ d. read-on-append letters (n * 16 + d) x y) refl
 
 positive : (k : ℕ) → 0 < 16 ^ k
 positive zero = omega arith
@@ -161,9 +161,9 @@ last-digit m n h =
 -- What is written in a case that is read is read back: the number modulo 16 to the number of digits.
 pub read-back :
     (letters : Letters) (case : Case) → reads letters case ≡ true → (k n : ℕ) → value letters (hexIn case k n) ≡ Number (n % 16 ^ k)
-unfolding hexIn onward
+unfolding hexIn readOn
 read-back letters case e zero n = ap Number (omega arith)
 read-back letters case e (suc k) n =
-    onward-append letters 0 (hexIn case k (n / 16)) (digit case (n % 16) ∷ [])
+    read-on-append letters 0 (hexIn case k (n / 16)) (digit case (n % 16) ∷ [])
     ∙ rw (read-back letters case e k (n / 16), digit-back letters case e (n % 16) (omega arith), pow-succ' 16 k)
     (ap Number (last-digit (16 ^ k) n (positive k)))

@@ -28,17 +28,17 @@ andThen (Number n) f = f n
 andThen NotHex f = NotHex
 
 -- The number that a text's digits make behind those that have made n.
-unfoldable pub onward : Letters → ℕ → List ℕ → Read
-onward letters n [] = Number n
-onward letters n (byte ∷ rest) = andThen (digitValue letters byte) (λ d. onward letters (n * 16 + d) rest)
+unfoldable pub readOn : Letters → ℕ → List ℕ → Read
+readOn letters n [] = Number n
+readOn letters n (byte ∷ rest) = andThen (digitValue letters byte) (λ d. readOn letters (n * 16 + d) rest)
 
 abbrev pub value : Letters → List ℕ → Read
-value letters text = onward letters 0 text
+value letters text = readOn letters 0 text
 
 -- The k digits at a place.
-abbrev pub valueAt : Letters → List ℕ → ℕ → ℕ → Read
-valueAt letters text at k = cond (ltb (length text) (at + k)) NotHex (value letters (take k (drop at text)))
+abbrev pub digitsAt : Letters → List ℕ → ℕ → ℕ → Read
+digitsAt letters text at k = cond (ltb (length text) (at + k)) NotHex (value letters (take k (drop at text)))
 
 -- Of a number that is too long, the low 32 bits.
-abbrev pub lowLong : Read → Read
-lowLong h = andThen h (λ n. Number (n % 2 ^ 32))
+abbrev pub cutToLong : Read → Read
+cutToLong h = andThen h (λ n. Number (n % 2 ^ 32))

@@ -42,7 +42,7 @@ pub fn digit_value(letters: Letters, byte: u8) -> Read
 
 // The k digits at a place.
 pub fn hex_value(text: &[u8], at: usize, letters: Letters, k: usize) -> Read
-    ensures { λ r. ⌜ r ≡ Reading.lowLong (Reading.valueAt letters (now (text .entry)) at k) ⌝ }
+    ensures { λ r. ⌜ r ≡ Reading.cutToLong (Reading.digitsAt letters (now (text .entry)) at k) ⌝ }
 {
     if text.len() < at {
         return Read::NotHex;

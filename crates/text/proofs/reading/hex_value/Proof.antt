@@ -7,7 +7,7 @@ use native.Mathlib.Omega.{arith}
 use borrow.Author.Needs.{needs}
 use borrow.Author.Tests.{le-ltb, lt-ltb}
 use lib.ListN.{drop, getD, length, take}
-use Rattle.text.specs.Reading.{digitValue, lowLong, onward, value}
+use Rattle.text.specs.Reading.{digitValue, cutToLong, readOn, value}
 use Rattle.text.specs.declared.reading.Read.the-variants.{Number}
 use Rattle.text.proofs.Values.{breaks-off, digit-small, ends, reads-on, still}
 use Rattle.text.proofs.reading.hex_value.Statement.{statement}
@@ -15,7 +15,7 @@ use Rattle.text.proofs.reading.hex_value.Tie as tie
 
 abbrev Inv-loop : tie.InvT-loop
 Inv-loop text at letters k n₀ i₀ n i =
-    (i ≤ k) × (n < 2 ^ 32) × (lowLong (onward letters n (still text at k i)) ≡ lowLong (value letters (take k (drop at text))))
+    (i ≤ k) × (n < 2 ^ 32) × (cutToLong (readOn letters n (still text at k i)) ≡ cutToLong (value letters (take k (drop at text))))
 
 abbrev μ-loop : tie.MeasureT-loop
 μ-loop text at letters k n₀ i₀ n i = k - i
