@@ -1,0 +1,171 @@
+-- What the inner functions promise.
+use mathlib.Core.Path.{_≡_}
+use mathlib.Core.Bool.{Bool, true, false, _&&_, _||_, cond, not}
+use mathlib.Core.List.{List, [], _∷_}
+use mathlib.Core.Option.{Option, none, some}
+use Prim.Native.Nat.{ℕ, zero, suc, _+_, _*_, _-_, _/_, _%_, _^_, _<_, _≤_}
+use lib.Dec.{eqb, leb, ltb}
+use lib.ListN.{drop, getD, length, take}
+use Rattle.memory.specs.Lengths.{Test, first, test}
+use Rattle.text.specs.Reading.{value}
+use Rattle.text.specs.declared.reading.Letters.the-variants.{EitherCase}
+use Rattle.text.specs.declared.reading.Read.{Read}
+use Rattle.text.specs.declared.reading.Read.the-variants as read
+use Rattle.srecord.specs.declared.lines.End.{End}
+use Rattle.srecord.specs.declared.lines.End.the-variants as end
+use Rattle.srecord.specs.declared.openings.Kind.{Kind}
+use Rattle.srecord.specs.declared.openings.Kind.the-variants.{Header, Data, Count, Closing}
+use Rattle.srecord.specs.declared.openings.Found.{Found}
+use Rattle.srecord.specs.declared.openings.Found.the-variants as found
+use Rattle.srecord.specs.declared.records.Parsed.{Parsed}
+use Rattle.srecord.specs.declared.records.Parsed.the-variants as parsed
+use Rattle.srecord.specs.declared.records.Summary.{Summary}
+use Rattle.srecord.specs.declared.records.Total.{Total}
+use Rattle.srecord.specs.declared.records.Total.the-variants as total
+use Rattle.srecord.specs.declared.sweep.SoFar.{SoFar}
+use Rattle.srecord.specs.declared.sweep.Swept.{Swept}
+use Rattle.srecord.specs.Lines.{lines}
+use Rattle.srecord.specs.Records.{Opening, Record, address, bytesOf, dataOf, withBytes}
+use Rattle.srecord.specs.Load.{endOf, isClosing, isCount, isData, kindOf, refusalNumber, sum}
+
+-- A line of a text: it begins at `at`, and the next one at `next`.
+pub record LineAt (text : List ℕ) (at next : ℕ) : Type 0 where
+  pub cuts : lines (drop at text) ≡ take (next - at) (drop at text) ∷ lines (drop next text)
+  pub onward : at < next
+  pub within : next ≤ length text
+
+-- A line's content ends at a place, or has no end.
+abbrev pub contentBy : List ℕ → End → Option (List ℕ)
+contentBy line (end.At e) = some (take e line)
+contentBy line end.Missing = none
+
+-- An opening, as the code has it.
+abbrev pub foundOf : Option Opening → Found
+foundOf none = found.Unknown
+foundOf (some o) = found.Opening (o .kind) (o .width)
+
+-- The sum of a line's bytes, as the code has it.
+abbrev pub totalOf : Option (List ℕ) → Total
+totalOf none = total.NotHex
+totalOf (some bytes) = total.Sum (sum bytes % 256)
+
+abbrev pub orZero : Read → ℕ
+orZero (read.Number n) = n
+orZero read.NotHex = 0
+
+-- The byte that the pair of digits number i makes.
+abbrev pub pairAt : List ℕ → ℕ → Read
+pairAt digits i = value EitherCase (getD digits (2 * i) 0 ∷ getD digits (2 * i + 1) 0 ∷ [])
+
+abbrev pub byteAt : List ℕ → ℕ → ℕ
+byteAt digits i = orZero (pairAt digits i)
+
+-- The number that k of them make from number `at` on.
+unfoldable pub numberAt : List ℕ → ℕ → ℕ → ℕ
+numberAt digits at zero = 0
+numberAt digits at (suc k) = numberAt digits at k * 256 + byteAt digits (at + k)
+
+-- How many of n bytes a line of this kind writes.
+abbrev pub lengthFor : Kind → ℕ → ℕ
+lengthFor Header n = 0
+lengthFor Data n = n
+lengthFor Count n = 0
+lengthFor Closing n = 0
+
+-- A record, as the code has it.
+abbrev pub summary : Record → Summary
+summary r =
+    record {
+      kind = kindOf r;
+      width = r .opening .width;
+      address = address r;
+      length = length (dataOf r);
+      checks = eqb (sum (r .bytes) % 256) 0xff;
+    }
+
+abbrev pub parsedOf : Option Record → Parsed
+parsedOf none = parsed.Malformed
+parsedOf (some r) = parsed.Record (summary r)
+
+-- A line that opens so, read from its digits.
+abbrev pub ReadsRecord : Kind → ℕ → List ℕ → Parsed → Type 0
+ReadsRecord kind width digits r =
+    (start : List ℕ) → r ≡ parsedOf (withBytes (record { start = start; kind = kind; width = width }) (bytesOf digits))
+
+-- A record's refusal, address written twice left aside, behind `count` data lines, `closed` or not.
+unfoldable pub singleTests : ℕ → Bool → ℕ → Summary → List Test
+singleTests size closed count r =
+    test 10 closed
+    ∷ test 11 (not (r .checks))
+    ∷ test 12 (not (eqb (r .length) 0) && ltb size (r .address + r .length))
+    ∷ test 14 (isCount (r .kind) && not (eqb (r .address) count))
+    ∷ []
+
+-- What is known behind one record more: data lines, whether there was a closing line, the end of the last data, and whether each began at or
+-- behind the end of the one before it.
+unfoldable pub noted : SoFar → Summary → SoFar
+noted s r =
+    record {
+      count = cond (isData (r .kind)) (s .count + 1) (s .count);
+      closed = s .closed || isClosing (r .kind);
+      top = cond (eqb (r .length) 0) (s .top) (r .address + r .length);
+      ordered = s .ordered && (eqb (r .length) 0 || leb (s .top) (r .address));
+    }
+
+-- What one sweep over the lines finds: the first line that is bad for another reason than an address written twice.
+pub record Finding : Type 0 where
+  pub number : ℕ
+  pub line : ℕ
+  pub passed : ℕ
+  pub ordered : Bool
+
+abbrev pub finding : ℕ → ℕ → ℕ → Bool → Finding
+finding number line passed ordered = record { number = number; line = line; passed = passed; ordered = ordered }
+
+unfoldable pub swept : ℕ → ℕ → SoFar → List (Option Record) → Finding
+swept size n s [] = finding (cond (s .closed) 0 15) 0 n (s .ordered)
+swept size n s (none ∷ rest) = finding 10 (n + 1) n (s .ordered)
+swept size n s (some r ∷ rest) =
+    let number = first (singleTests size (s .closed) (s .count) (summary r)) in
+    cond (eqb number 0) (swept size (n + 1) (noted s (summary r)) rest) (finding number (n + 1) n (s .ordered))
+
+abbrev pub fresh : SoFar
+fresh = record { count = 0; closed = false; top = 0; ordered = true }
+
+abbrev pub findingOf : Swept → Finding
+findingOf s = finding (refusalNumber (s .refusal)) (s .line) (s .passed) (s .ordered)
+
+-- Whether a line writes an address.
+abbrev pub writes : Option Record → ℕ → Bool
+writes none a = false
+writes (some r) a = leb (address r) a && ltb a (endOf r)
+
+-- Of the first `lines` lines no two write one address from `low` to below `high`.
+abbrev pub Once : List (Option Record) → ℕ → ℕ → ℕ → Type 0
+Once records lines low high =
+    (i j a : ℕ) → i < j → j < lines → low ≤ a → a < high → writes (getD records i none) a ≡ true →
+    writes (getD records j none) a ≡ true → ⊥
+
+-- A line writes an address that an earlier one writes too.
+pub record Again (records : List (Option Record)) (line : ℕ) : Type 0 where
+  pub earlier : ℕ
+  pub address : ℕ
+  pub before : earlier < line
+  pub first : writes (getD records earlier none) address ≡ true
+  pub second : writes (getD records line none) address ≡ true
+
+-- The first of `limit` lines that writes an address from `low` to below `high` again; `limit` where none does.
+pub record FirstAgain (records : List (Option Record)) (limit low high line : ℕ) : Type 0 where
+  pub within : line ≤ limit
+  pub once : Once records line low high
+  pub again : line < limit → Again records line
+
+-- A mark: bit i % 8 of byte i / 8.
+unfoldable pub marked : List ℕ → ℕ → Bool
+marked marks i = eqb (getD marks (i / 8) 0 / 2 ^ (i % 8) % 2) 1
+
+-- Marking from `low` to below `high`: whether one of them was marked already; if not, they are marked now, and no other.
+pub record Marks (before : List ℕ) (low high : ℕ) (answer : Bool) (after : List ℕ) : Type 0 where
+  pub taken : answer ≡ true → (i : ℕ) × (low ≤ i) × (i < high) × (marked before i ≡ true)
+  pub free : answer ≡ false → (i : ℕ) → low ≤ i → i < high → marked before i ≡ false
+  pub now : answer ≡ false → (i : ℕ) → marked after i ≡ (marked before i || (leb low i && ltb i high))

@@ -1,0 +1,158 @@
+// One sweep over a text's lines: the first that is bad for another reason than an address written twice (document 02, request One).
+use crate::Refusal;
+use crate::lines;
+use crate::openings::Kind;
+use crate::records;
+use crate::records::Parsed;
+use crate::records::Summary;
+ghost use mathlib.Core.Path.{_≡_};
+ghost use mathlib.Core.Bool.{cond};
+ghost use Prim.Native.Nat.{_+_, _^_, _<_};
+ghost use Rattle.memory.specs.Lengths.{first};
+ghost use Rattle.srecord.specs.Load.{isClosing, isData, records, refusalNumber};
+ghost use Rattle.srecord.specs.Promises as Promises;
+
+// What is known of the lines so far: data lines, whether one was a closing line, where the last data ended, and whether each began at or
+// behind the end of the one before it.
+pub struct SoFar {
+    pub count: usize,
+    pub closed: bool,
+    pub top: usize,
+    pub ordered: bool,
+}
+
+// The refusal and its line, the lines before it, and whether their data stand in order.
+pub struct Swept {
+    pub refusal: Refusal,
+    pub line: usize,
+    pub passed: usize,
+    pub ordered: bool,
+}
+
+fn single(size: usize, s: SoFar, r: Summary) -> Refusal
+    ensures { λ a. ⌜ refusalNumber a ≡ first (Promises.singleTests size (s .closed) (s .count) r) ⌝ }
+{
+    if s.closed {
+        return Refusal::Line;
+    }
+    if !r.checks {
+        return Refusal::Check;
+    }
+    if r.length != 0 {
+        if size < r.address as usize + r.length as usize {
+            return Refusal::Outside;
+        }
+    }
+    let kind = r.kind;
+    match kind {
+        Kind::Count => {
+            if r.address as usize != s.count {
+                return Refusal::Number;
+            }
+            Refusal::Accepted
+        }
+        Kind::Header => Refusal::Accepted,
+        Kind::Data => Refusal::Accepted,
+        Kind::Closing => Refusal::Accepted,
+    }
+}
+
+fn count_after(kind: Kind, count: usize) -> usize
+    requires { ⌜ count + 1 < 2 ^ 64 ⌝ }
+    ensures { λ n. ⌜ n ≡ cond (isData kind) (count + 1) count ⌝ }
+{
+    match kind {
+        Kind::Header => count,
+        Kind::Data => count + 1,
+        Kind::Count => count,
+        Kind::Closing => count,
+    }
+}
+
+fn closes(kind: Kind) -> bool
+    ensures { λ b. ⌜ b ≡ isClosing kind ⌝ }
+{
+    match kind {
+        Kind::Header => false,
+        Kind::Data => false,
+        Kind::Count => false,
+        Kind::Closing => true,
+    }
+}
+
+fn noted(s: SoFar, r: Summary) -> SoFar
+    requires { ⌜ s .count + 1 < 2 ^ 64 ⌝ }
+    ensures { λ n. ⌜ n ≡ Promises.noted s r ⌝ }
+{
+    let count = count_after(r.kind, s.count);
+    let closed = s.closed || closes(r.kind);
+    if r.length == 0 {
+        return SoFar {
+            count: count,
+            closed: closed,
+            top: s.top,
+            ordered: s.ordered,
+        };
+    }
+    SoFar {
+        count: count,
+        closed: closed,
+        top: r.address as usize + r.length as usize,
+        ordered: s.ordered && s.top <= r.address as usize,
+    }
+}
+
+pub fn sweep(text: &[u8], size: usize) -> Swept
+    ensures { λ a. ⌜ Promises.findingOf a ≡ Promises.swept size 0 Promises.fresh (records (now (text .entry))) ⌝ }
+{
+    let mut s = SoFar {
+        count: 0,
+        closed: false,
+        top: 0,
+        ordered: true,
+    };
+    let mut n = 0;
+    let mut at = 0;
+    while at < text.len() {
+        let next = lines::next(text, at);
+        match records::parse(&text[at..next]) {
+            Parsed::Record(r) => {
+                let refusal = single(size, s, r);
+                if refusal.number() != 0 {
+                    return Swept {
+                        refusal: refusal,
+                        line: n + 1,
+                        passed: n,
+                        ordered: s.ordered,
+                    };
+                }
+                s = noted(s, r);
+            }
+            Parsed::Malformed => {
+                return Swept {
+                    refusal: Refusal::Line,
+                    line: n + 1,
+                    passed: n,
+                    ordered: s.ordered,
+                };
+            }
+        }
+        n += 1;
+        at = next;
+    }
+    Swept {
+        refusal: at_end(s.closed),
+        line: 0,
+        passed: n,
+        ordered: s.ordered,
+    }
+}
+
+fn at_end(closed: bool) -> Refusal
+    ensures { λ a. ⌜ refusalNumber a ≡ cond closed 0 15 ⌝ }
+{
+    if closed {
+        return Refusal::Accepted;
+    }
+    Refusal::Unclosed
+}

@@ -1,0 +1,69 @@
+// The first line that writes an address again (document 02, request One: 13).
+use crate::lines;
+use crate::marks;
+use crate::records;
+use crate::records::Parsed;
+use crate::records::Summary;
+ghost use mathlib.Core.Path.{_≡_};
+ghost use Prim.Native.Nat.{_+_, _≤_};
+ghost use Rattle.srecord.specs.Load.{records};
+ghost use Rattle.srecord.specs.Promises.{FirstAgain, Marks};
+
+// The addresses that are marked at once: a bit each, 128 KiB.
+const WINDOW: usize = 1048576;
+
+// Marks the addresses that a line writes from `low` on, and answers whether one was marked already.
+fn mark_line(marks: &mut [u8; 131072], low: usize, r: Summary) -> bool {
+    let begin = r.address as usize;
+    let end = begin + r.length as usize;
+    if end <= low {
+        return false;
+    }
+    if low + WINDOW <= begin {
+        return false;
+    }
+    let from = if begin < low { 0 } else { begin - low };
+    let to = if end - low < WINDOW { end - low } else { WINDOW };
+    marks::mark(marks, from, to)
+}
+
+// Of the first `limit` lines, the one that writes again an address in the window at `low`.
+fn again_in(text: &[u8], limit: usize, low: usize) -> usize
+    requires { ⌜ low ≤ 16777216 ⌝ }
+    ensures { λ n. ⌜ FirstAgain (records (now (text .entry))) limit low (low + 1048576) n ⌝ }
+{
+    let mut marks = [0u8; 131072];
+    let mut n = 0;
+    let mut at = 0;
+    while at < text.len() {
+        if limit <= n {
+            return limit;
+        }
+        let next = lines::next(text, at);
+        match records::parse(&text[at..next]) {
+            Parsed::Record(r) => {
+                if mark_line(&mut marks, low, r) {
+                    return n;
+                }
+            }
+            Parsed::Malformed => {}
+        }
+        n += 1;
+        at = next;
+    }
+    limit
+}
+
+// Window by window: each leaves fewer lines for the next ones to look at.
+pub fn first_again(text: &[u8], size: usize, limit: usize) -> usize
+    requires { ⌜ size ≤ 16777216 ⌝ }
+    ensures { λ n. ⌜ FirstAgain (records (now (text .entry))) limit 0 size n ⌝ }
+{
+    let mut first = limit;
+    let mut low = 0;
+    while low < size {
+        first = again_in(text, first, low);
+        low += WINDOW;
+    }
+    first
+}
