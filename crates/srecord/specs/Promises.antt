@@ -3,9 +3,10 @@ use mathlib.Core.Path.{_≡_}
 use mathlib.Core.Bool.{Bool, true, false, _&&_, _||_, cond, not}
 use mathlib.Core.List.{List, [], _∷_}
 use mathlib.Core.Option.{Option, none, some}
-use Prim.Native.Nat.{ℕ, zero, suc, _+_, _*_, _-_, _/_, _%_, _^_, _<_, _≤_}
+use Prim.Native.Nat.{ℕ, _+_, _*_, _-_, _/_, _%_, _^_, _<_, _≤_}
 use lib.Dec.{eqb, leb, ltb}
 use lib.ListN.{drop, getD, length, take}
+use Rattle.memory.specs.Access.{valueAt}
 use Rattle.memory.specs.Lengths.{Test, first, test}
 use Rattle.text.specs.Reading.{value}
 use Rattle.text.specs.declared.reading.Letters.the-variants.{EitherCase}
@@ -49,21 +50,17 @@ abbrev pub totalOf : Option (List ℕ) → Total
 totalOf none = total.NotHex
 totalOf (some bytes) = total.Sum (sum bytes % 256)
 
-abbrev pub orZero : Read → ℕ
-orZero (read.Number n) = n
-orZero read.NotHex = 0
-
 -- The byte that the pair of digits number i makes.
 abbrev pub pairAt : List ℕ → ℕ → Read
 pairAt digits i = value EitherCase (getD digits (2 * i) 0 ∷ getD digits (2 * i + 1) 0 ∷ [])
 
-abbrev pub byteAt : List ℕ → ℕ → ℕ
-byteAt digits i = orZero (pairAt digits i)
+abbrev pub ByteAt : List ℕ → ℕ → ℕ → Type 0
+ByteAt digits i byte = (n : ℕ) → pairAt digits i ≡ read.Number n → byte ≡ n
 
 -- The number that k of them make from number `at` on.
-unfoldable pub numberAt : List ℕ → ℕ → ℕ → ℕ
-numberAt digits at zero = 0
-numberAt digits at (suc k) = numberAt digits at k * 256 + byteAt digits (at + k)
+pub record NumberAt (digits : List ℕ) (at k n : ℕ) : Type 0 where
+  pub reads : (bytes : List ℕ) → bytesOf digits ≡ some bytes → n ≡ valueAt k bytes at
+  pub small : n < 256 ^ k
 
 -- How many of n bytes a line of this kind writes.
 abbrev pub lengthFor : Kind → ℕ → ℕ

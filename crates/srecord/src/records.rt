@@ -4,8 +4,7 @@ use crate::lines::End;
 use crate::openings;
 use crate::openings::Found;
 use crate::openings::Kind;
-use text::Letters;
-use text::Read;
+use std::num::wrapping_add_u32;
 ghost use mathlib.Core.Path.{_≡_};
 ghost use Prim.Native.Nat.{_+_, _*_, _^_, _<_, _≤_};
 ghost use lib.ListN.{length};
@@ -33,33 +32,17 @@ pub enum Total {
     NotHex,
 }
 
-// The byte that the pair of digits number i makes.
-fn pair(digits: &[u8], i: usize) -> Read
-    requires { ⌜ 2 * i + 1 < length (now digits) ⌝ }
-    ensures { λ r. ⌜ r ≡ Promises.pairAt (now (digits .entry)) i ⌝ }
-{
-    let high = text::digit_value(Letters::EitherCase, digits[2 * i]);
-    let low = text::digit_value(Letters::EitherCase, digits[2 * i + 1]);
-    match high {
-        Read::Number(h) => match low {
-            Read::Number(l) => Read::Number(h * 16 + l),
-            Read::NotHex => Read::NotHex,
-        },
-        Read::NotHex => Read::NotHex,
-    }
-}
-
-// The same, and 0 where they are no digits.
+// The byte that the pair of digits number i makes, where they are digits.
 pub fn byte(digits: &[u8], i: usize) -> u8
     requires { ⌜ 2 * i + 1 < length (now digits) ⌝ }
-    ensures { λ b. ⌜ b ≡ Promises.byteAt (now (digits .entry)) i ⌝ }
+    ensures { λ b. ⌜ Promises.ByteAt (now (digits .entry)) i b ⌝ }
 {
-    match pair(digits, i) {
-        Read::Number(b) => b as u8,
-        Read::NotHex => 0,
-    }
+    let high = text::value_of_digit(digits[2 * i]);
+    let low = text::value_of_digit(digits[2 * i + 1]);
+    ((high * 16 + low) % 256) as u8
 }
 
+// No branch leaves the loop before its end: what is not a digit is told behind it.
 fn added(digits: &[u8]) -> Total
     ensures { λ t. ⌜ t ≡ Promises.totalOf (Records.bytesOf (now (digits .entry))) ⌝ }
 {
@@ -68,25 +51,25 @@ fn added(digits: &[u8]) -> Total
         return Total::NotHex;
     }
     let mut sum: u32 = 0;
+    let mut good = true;
     let mut i = 0;
     while i < n {
-        match pair(digits, i) {
-            Read::Number(b) => {
-                sum = (sum + b) % 256;
-            }
-            Read::NotHex => {
-                return Total::NotHex;
-            }
-        }
+        let high = digits[2 * i];
+        let low = digits[2 * i + 1];
+        good = good & text::is_digit(high) & text::is_digit(low);
+        sum = wrapping_add_u32(sum, text::value_of_digit(high) * 16 + text::value_of_digit(low));
         i += 1;
     }
-    Total::Sum(sum)
+    if good {
+        return Total::Sum(sum % 256);
+    }
+    Total::NotHex
 }
 
 // The number that k bytes make from byte `at` on.
 fn number(digits: &[u8], at: usize, k: usize) -> u32
     requires { ⌜ (k ≤ 4) × (2 * (at + k) ≤ length (now digits)) ⌝ }
-    ensures { λ n. ⌜ n ≡ Promises.numberAt (now (digits .entry)) at k ⌝ }
+    ensures { λ n. ⌜ Promises.NumberAt (now (digits .entry)) at k n ⌝ }
 {
     if k == 0 {
         return 0;

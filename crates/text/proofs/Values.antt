@@ -1,7 +1,7 @@
 -- Laws of reading: the value of a digit, a text's digits one by one, and that what is written is read back.
 -- Assumes nothing.
 use mathlib.Core.Path.{_≡_, refl, sym, ap, _∙_, subst}
-use mathlib.Core.Bool.{Bool, true, false, _&&_, cond, false≢true}
+use mathlib.Core.Bool.{Bool, true, false, _&&_, _||_, cond, false≢true}
 use mathlib.Core.List.{List, [], _∷_, _++_}
 use Prim.Native.Nat.{ℕ, zero, suc, _+_, _-_, _*_, _/_, _%_, _^_, _<_, _≤_}
 use native.Mathlib.Nat.{add-mul-mod-self-left, div-add-mod, mod-eq-of-lt, mod-lt, mul-assoc, pow-succ'}
@@ -10,7 +10,7 @@ use borrow.Author.Tests.{le-leb, leb-true, le-ltb, lt-leb, lt-ltb, ltb-false, lt
 use lib.Dec.{leb, ltb}
 use lib.ListN.{drop, getD, length, take}
 use lib.Seq.{drop-cons}
-use Rattle.text.specs.Reading.{andThen, between, digitValue, cutToLong, readOn, value}
+use Rattle.text.specs.Reading.{andThen, between, digitValue, cutToLong, isNumber, readOn, value}
 use Rattle.text.specs.Text.{digit, hexIn}
 use Rattle.text.specs.declared.digits.Case.{Case}
 use Rattle.text.specs.declared.digits.Case.the-variants.{Lower, Upper}
@@ -167,3 +167,29 @@ read-back letters case e (suc k) n =
     read-on-append letters 0 (hexIn case k (n / 16)) (digit case (n % 16) ∷ [])
     ∙ rw (read-back letters case e k (n / 16), digit-back letters case e (n % 16) (omega arith), pow-succ' 16 k)
     (ap Number (last-digit (16 ^ k) n (positive k)))
+
+-- A byte is a digit where one of the three ranges has it.
+pub one-of-three :
+    (byte : ℕ) → (between 48 57 byte || between 97 102 byte) || between 65 70 byte ≡ isNumber (digitValue EitherCase byte)
+unfolding digitValue
+one-of-three byte = go (between 48 57 byte) (between 97 102 byte) (between 65 70 byte)
+  where
+    go :
+        (a b c : Bool) →
+        (a || b) || c ≡ isNumber (cond a (Number (byte - 48)) (cond b (Number (byte - 87)) (cond c (Number (byte - 55)) NotHex)))
+    go true b c = refl
+    go false true c = refl
+    go false false true = refl
+    go false false false = refl
+
+-- A digit's value from the low bits of its character.
+pub by-low-bits : (byte d : ℕ) → digitValue EitherCase byte ≡ Number d → byte % 16 + 9 * (byte / 64) ≡ d
+unfolding digitValue
+by-low-bits byte d =
+    picks (λ h. h ≡ Number d → byte % 16 + 9 * (byte / 64) ≡ d) (between 48 57 byte)
+    (λ r e. let s : byte - 48 ≡ d = cc in omega (arith, bounds 48 57 byte r))
+    (picks (λ h. h ≡ Number d → byte % 16 + 9 * (byte / 64) ≡ d) (between 97 102 byte)
+    (λ r e. let s : byte - 87 ≡ d = cc in omega (arith, bounds 97 102 byte r))
+    (picks (λ h. h ≡ Number d → byte % 16 + 9 * (byte / 64) ≡ d) (between 65 70 byte)
+    (λ r e. let s : byte - 55 ≡ d = cc in omega (arith, bounds 65 70 byte r))
+    (λ e. let never : _≡_ {A = ℕ} 0 1 = cc in omega arith)))

@@ -1,7 +1,8 @@
 -- Hexadecimal, read: document 02, requests One (either case) and Fourteen (lower case alone).
+use mathlib.Core.Path.{_≡_}
 use mathlib.Core.Bool.{Bool, true, false, _&&_, cond}
 use mathlib.Core.List.{List, [], _∷_}
-use Prim.Native.Nat.{ℕ, _+_, _-_, _*_, _%_, _^_}
+use Prim.Native.Nat.{ℕ, _+_, _-_, _*_, _%_, _^_, _<_}
 use lib.Dec.{leb, ltb}
 use lib.ListN.{drop, length, take}
 use Rattle.text.specs.declared.reading.Letters.{Letters}
@@ -22,6 +23,15 @@ digitValue letters byte =
     cond (between 48 57 byte) (Number (byte - 48))
     (cond (between 97 102 byte) (Number (byte - 87))
     (cond (upperToo letters && between 65 70 byte) (Number (byte - 55)) NotHex))
+
+abbrev pub isNumber : Read → Bool
+isNumber (Number n) = true
+isNumber NotHex = false
+
+-- What is promised of a digit's value: nothing of a byte that is none, but that it is small.
+pub record ValueOfDigit (byte n : ℕ) : Type 0 where
+  pub reads : (d : ℕ) → digitValue EitherCase byte ≡ Number d → n ≡ d
+  pub small : n < 64
 
 abbrev pub andThen : Read → (ℕ → Read) → Read
 andThen (Number n) f = f n

@@ -12,3 +12,5 @@ pub use reading::Letters;
 pub use reading::Read;
 pub use reading::digit_value;
 pub use reading::hex_value;
+pub use reading::is_digit;
+pub use reading::value_of_digit;

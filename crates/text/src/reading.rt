@@ -66,3 +66,17 @@ pub fn hex_value(text: &[u8], at: usize, letters: Letters, k: usize) -> Read
     }
     Read::Number(n)
 }
+
+// Whether a byte is a digit, and its value if it is one, in either case: both without a branch, since the digits of a text mislead a
+// processor that guesses.
+pub fn is_digit(byte: u8) -> bool
+    ensures { λ r. ⌜ r ≡ Reading.isNumber (Reading.digitValue Letters.EitherCase byte) ⌝ }
+{
+    between(48, 57, byte) | between(97, 102, byte) | between(65, 70, byte)
+}
+
+pub fn value_of_digit(byte: u8) -> u32
+    ensures { λ n. ⌜ Reading.ValueOfDigit byte n ⌝ }
+{
+    byte as u32 % 16 + 9 * (byte as u32 / 64)
+}
