@@ -1,2 +1,4 @@
 pub mod Cutting
+pub mod Starts
+pub mod Summaries
 pub mod Pairs

@@ -4,14 +4,15 @@ use mathlib.Core.Path.{_≡_, refl, sym, ap, _∙_}
 use mathlib.Core.Bool.{Bool, true, false, _&&_, cond}
 use mathlib.Core.List.{List, [], _∷_}
 use mathlib.Core.Option.{Option, none, some}
-use Prim.Native.Nat.{ℕ, zero, suc, _+_, _*_, _%_, _^_, _<_, _≤_}
-use native.Mathlib.Nat.{not-suc-le-zero}
+use Prim.Native.Nat.{ℕ, zero, suc, _+_, _*_, _/_, _%_, _^_, _<_, _≤_}
+use native.Mathlib.Nat.{not-suc-le-zero, pow-le-pow-right, pow-suc}
 use native.Mathlib.Numerals.{add-one}
 use native.Mathlib.Omega.{arith}
 use borrow.Author.Tests.{ltb-false, ltb-true}
 use lib.Dec.{ltb}
 use lib.ListN.{List·getD-eq-default, drop, getD, length}
-use lib.Seq.{drop-cons}
+use lib.Seq.{drop-cons, drop-length}
+use Rattle.memory.specs.Access.{valueAt}
 use Rattle.memory.proofs.Bytes.{Bytes}
 use Rattle.text.specs.Reading.{ValueOfDigit, andThen, digitValue, isNumber, readOn, value}
 use Rattle.text.specs.declared.reading.Letters.the-variants.{EitherCase}
@@ -20,7 +21,7 @@ use Rattle.text.specs.declared.reading.Read.the-variants.{Number, NotHex}
 use Rattle.text.proofs.Values.{digit-small}
 use Rattle.srecord.specs.Records.{before, bytesOf}
 use Rattle.srecord.specs.Load.{sum}
-use Rattle.srecord.specs.Promises.{pairAt, totalOf}
+use Rattle.srecord.specs.Promises.{ByteAt, pairAt, totalOf}
 use Rattle.srecord.specs.declared.records.Total.{Total}
 use Rattle.srecord.specs.declared.records.Total.the-variants as total
 
@@ -123,10 +124,20 @@ pub from-zero : (o : Option (List ℕ)) → withRest true 0 o ≡ totalOf o
 from-zero none = refl
 from-zero (some bytes) = ap total.Sum (omega arith)
 
-pub at-last : (good : Bool) (s : ℕ) → withRest good s (bytesOf []) ≡ cond good (total.Sum (s % 256)) total.NotHex
-unfolding bytesOf
-at-last true s = ap total.Sum (omega arith)
-at-last false s = refl
+-- Behind the last digit.
+module _ (digits : List ℕ) (s i : ℕ) (good : Bool) (done : 2 * i ≡ length digits) where
+  none-left : drop (2 * i) digits ≡ []
+  none-left = rw done (drop-length digits)
+
+  pub ends-good :
+      good ≡ true → withRest good s (bytesOf (drop (2 * i) digits)) ≡ totalOf (bytesOf digits) → total.Sum (s % 256) ≡ totalOf (bytesOf digits)
+  unfolding bytesOf
+  ends-good e inv = ap total.Sum (omega arith) ∙ rw (e, none-left) at inv
+
+  pub ends-bad :
+      good ≡ false → withRest good s (bytesOf (drop (2 * i) digits)) ≡ totalOf (bytesOf digits) → total.NotHex ≡ totalOf (bytesOf digits)
+  unfolding bytesOf
+  ends-bad e inv = rw (e, none-left) at inv
 
 pub one-pair :
     (a b : ℕ) (rest : List ℕ) {h l : ℕ} → ValueOfDigit a h → ValueOfDigit b l → (good : Bool) (s : ℕ) →
@@ -149,3 +160,42 @@ one-pair a b rest {h} {l} high low good s =
     go NotHex t (some bytes) true p q = refl
     go NotHex t (some bytes) false p q = refl
     go NotHex t none good p q = refl
+
+-- An odd number of digits makes no bytes.
+pub odd : (digits : List ℕ) → (length digits ≡ 2 * (length digits / 2) → ⊥) → total.NotHex ≡ totalOf (bytesOf digits)
+odd digits uneven = go (bytesOf digits) refl
+  where
+    go : (o : Option (List ℕ)) → bytesOf digits ≡ o → total.NotHex ≡ totalOf o
+    go none e = refl
+    go (some bytes) e = absurd (uneven (omega (arith, twice-as-long digits bytes e)))
+
+-- Two digits taken off.
+pub two-off :
+    (digits : List ℕ) (i : ℕ) → 2 * i + 1 < length digits →
+    drop (2 * i) digits ≡ getD digits (2 * i) 0 ∷ getD digits (2 * i + 1) 0 ∷ drop (2 * (i + 1)) digits
+two-off digits i inside =
+    let first : 2 * i + 1 ≡ suc (2 * i) = omega arith in
+    let second : 2 * (i + 1) ≡ suc (suc (2 * i)) = omega arith in
+    rw (drop-cons digits (2 * i) 0 (omega arith), first, second, drop-cons digits (suc (2 * i)) 0 (omega arith))
+
+-- A number read byte by byte.
+pub none-yet : (digits : List ℕ) (at : ℕ) (bytes : List ℕ) → bytesOf digits ≡ some bytes → 0 ≡ valueAt 0 bytes at
+unfolding valueAt
+none-yet digits at bytes e = refl
+
+pub below-power : (n i : ℕ) → n < 256 ^ i → i < 4 → n < 16777216
+below-power n i small few =
+    let most : 256 ^ i ≤ 256 ^ 3 = pow-le-pow-right {n = 256} (omega arith) {i = i} {j = 3} (omega arith) in
+    omega arith
+
+pub power-more : (n b i : ℕ) → n < 256 ^ i → b < 256 → n * 256 + b < 256 ^ (i + 1)
+power-more n b i small byte = rw (add-one i, pow-suc 256 i) (omega arith)
+
+pub byte-more :
+    (digits : List ℕ) (at i n b : ℕ) → 2 * (at + i) + 1 < length digits → ByteAt digits (at + i) b →
+    ((bytes : List ℕ) → bytesOf digits ≡ some bytes → n ≡ valueAt i bytes at) → (bytes : List ℕ) → bytesOf digits ≡ some bytes →
+    n * 256 + b ≡ valueAt (i + 1) bytes at
+unfolding valueAt
+byte-more digits at i n b inside here before bytes e =
+    let room : at + i < length bytes = omega (arith, twice-as-long digits bytes e) in
+    rw (add-one i, before bytes e, here (getD bytes (at + i) 0) (pair-of digits bytes e (at + i) room))
