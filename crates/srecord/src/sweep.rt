@@ -33,14 +33,14 @@ pub struct Swept {
 fn outside(size: usize, r: Summary) -> bool
     ensures { λ b. ⌜ b ≡ (not (eqb (r .length) 0) && ltb size (r .address + r .length)) ⌝ }
 {
-    r.length != 0 && size < r.address as usize + r.length as usize
+    (r.length != 0) & (size < r.address as usize + r.length as usize)
 }
 
 fn wrong_number(count: usize, r: Summary) -> bool
     ensures { λ b. ⌜ b ≡ (isCount (r .kind) && not (eqb (r .address) count)) ⌝ }
 {
     let kind = r.kind;
-    kind.is_count() && r.address as usize != count
+    kind.is_count() & (r.address as usize != count)
 }
 
 // A record's refusal, address written twice left aside.
@@ -72,26 +72,25 @@ fn count_after(kind: Kind, count: usize) -> usize
     count
 }
 
+fn top_after(top: usize, r: Summary) -> usize
+    ensures { λ n. ⌜ n ≡ cond (eqb (r .length) 0) top (r .address + r .length) ⌝ }
+{
+    if r.length == 0 {
+        return top;
+    }
+    r.address as usize + r.length as usize
+}
+
 fn noted(s: SoFar, r: Summary) -> SoFar
     requires { ⌜ s .count + 1 < 2 ^ 64 ⌝ }
     ensures { λ n. ⌜ n ≡ Promises.noted s r ⌝ }
 {
     let kind = r.kind;
-    let count = count_after(kind, s.count);
-    let closed = kind.is_closing() || s.closed;
-    if r.length == 0 {
-        return SoFar {
-            count: count,
-            closed: closed,
-            top: s.top,
-            ordered: s.ordered,
-        };
-    }
     SoFar {
-        count: count,
-        closed: closed,
-        top: r.address as usize + r.length as usize,
-        ordered: s.ordered && s.top <= r.address as usize,
+        count: count_after(kind, s.count),
+        closed: kind.is_closing() | s.closed,
+        top: top_after(s.top, r),
+        ordered: s.ordered & ((r.length == 0) | (s.top <= r.address as usize)),
     }
 }
 
