@@ -6,14 +6,18 @@ use crate::records::Parsed;
 use crate::records::Summary;
 ghost use mathlib.Core.Path.{_≡_};
 ghost use Prim.Native.Nat.{_+_, _≤_};
+ghost use lib.ListN.{length};
 ghost use Rattle.srecord.specs.Load.{records};
-ghost use Rattle.srecord.specs.Promises.{FirstAgain, Marks};
+ghost use Rattle.srecord.specs.Promises.{FirstAgain, Marks, writesIn};
 
 // The addresses that are marked at once: a bit each, 128 KiB.
 const WINDOW: usize = 1048576;
 
 // Marks the addresses that a line writes from `low` on, and answers whether one was marked already.
-fn mark_line(marks: &mut [u8; 131072], low: usize, r: Summary) -> bool {
+fn mark_line(marks: &mut [u8], low: usize, r: Summary) -> bool
+    requires { ⌜ (length (now marks) ≡ 131072) × (low ≤ 16777216) ⌝ }
+    ensures { λ b. ⌜ Marks (now (marks .entry)) (writesIn low r) b (now (marks .exit)) ⌝ }
+{
     let begin = r.address as usize;
     let end = begin + r.length as usize;
     if end <= low {
