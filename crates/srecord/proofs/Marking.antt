@@ -3,14 +3,14 @@
 use mathlib.Core.Path.{_≡_, refl, sym, _∙_}
 use mathlib.Core.Bool.{Bool, true, false, _&&_, _||_, or-assoc, or-false, or-true, true≢false, false≢true}
 use mathlib.Core.List.{List}
-use Prim.Native.Nat.{ℕ, zero, suc, _+_, _*_, _/_, _%_, _^_, _<_, _≤_}
+use Prim.Native.Nat.{ℕ, zero, suc, _+_, _*_, _-_, _/_, _%_, _^_, _<_, _≤_, min}
 use native.Mathlib.Nat.{add-div-right, div-div-eq-div-mul, lt-of-le-of-lt, mod-eq-of-lt, one-mul, pow-le-pow-right, pow-succ'}
 use native.Mathlib.Omega.{arith}
 use lib.Dec.{eqb, leb, ltb}
 use lib.ListN.{getD, length, length-set, set}
 use lib.Pow.{pow-pos}
 use lib.Seq.{getD-set-other, getD-set-same}
-use borrow.Author.Tests.{eqb-false, eqb-true, le-leb, le-ltb, leb-true, lt-ltb, ltb-false, ltb-true}
+use borrow.Author.Tests.{eqb-false, eqb-true, le-leb, le-ltb, leb-false, leb-true, lt-leb, lt-ltb, ltb-false, ltb-true}
 use Rattle.srecord.specs.Promises.{Marks, between, marked}
 
 abbrev bit : ℕ → ℕ → ℕ
@@ -156,6 +156,23 @@ module _ {before after : List ℕ} {wanted : ℕ → Bool} where
         free = λ e. absurd (true≢false e);
         now = λ e. absurd (true≢false e);
       }
+
+-- A test has the value of another that says the same.
+same-test : (a b c d : ℕ) → (a ≤ b → c ≤ d) → (c ≤ d → a ≤ b) → leb a b ≡ leb c d
+same-test a b c d to from = go (leb c d) refl
+  where
+    go : (test : Bool) → leb c d ≡ test → leb a b ≡ test
+    go true e = le-leb a b (from (leb-true c d e))
+    go false e =
+        let not : a ≤ b → ⊥ = λ h. omega (arith, leb-false c d e, to h) in
+        lt-leb a b (omega arith)
+
+-- Addresses of a window at `low`, and their numbers in it.
+pub window :
+    (begin end low i from to : ℕ) → i < 1048576 → from ≡ begin - low → to ≡ min (end - low) 1048576 →
+    between begin end (low + i) ≡ between from to i
+window begin end low i from to below starts ends =
+    rw (same-test begin (low + i) from i (λ h. omega arith) (λ h. omega arith), same-test (suc (low + i)) end (suc i) to (λ h. omega arith) (λ h. omega arith))
 
 -- A shifted 1, as the code makes it.
 pub shifted : (k : ℕ) → k < 8 → 1 * 2 ^ k % 256 ≡ 2 ^ k
