@@ -172,7 +172,10 @@ pub window :
     (begin end low i from to : ℕ) → i < 1048576 → from ≡ begin - low → to ≡ min (end - low) 1048576 →
     between begin end (low + i) ≡ between from to i
 window begin end low i from to below starts ends =
-    rw (same-test begin (low + i) from i (λ h. omega arith) (λ h. omega arith), same-test (suc (low + i)) end (suc i) to (λ h. omega arith) (λ h. omega arith))
+    rw (
+      same-test begin (low + i) from i (λ h. omega arith) (λ h. omega arith),
+      same-test (suc (low + i)) end (suc i) to (λ h. omega arith) (λ h. omega arith),
+    )
 
 -- A shifted 1, as the code makes it.
 pub shifted : (k : ℕ) → k < 8 → 1 * 2 ^ k % 256 ≡ 2 ^ k

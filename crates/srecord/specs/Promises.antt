@@ -171,6 +171,11 @@ pub record Marks (before : List ℕ) (wanted : ℕ → Bool) (answer : Bool) (af
 abbrev pub between : ℕ → ℕ → ℕ → Bool
 between low high a = leb low a && ltb a high
 
--- Whether a line writes the address number i of the window at `low`.
-abbrev pub writesIn : ℕ → Summary → ℕ → Bool
-writesIn low r i = between (r .address) (r .address + r .length) (low + i)
+-- Whether a line, as the code has it, writes an address,
+abbrev pub writesBy : Parsed → ℕ → Bool
+writesBy (parsed.Record r) a = between (r .address) (r .address + r .length) a
+writesBy parsed.Malformed a = false
+
+-- and whether it writes the one that is number i of the window at `low`.
+abbrev pub writesIn : ℕ → Parsed → ℕ → Bool
+writesIn low line i = writesBy line (low + i)

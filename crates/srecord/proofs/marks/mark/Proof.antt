@@ -7,11 +7,10 @@ use native.Mathlib.Omega.{arith}
 use lib.ListN.{getD, length}
 use borrow.Author.Tests.{eq-eqb, ne-eqb}
 use Rattle.srecord.specs.Promises.{Marks, between, marked}
-use Rattle.srecord.proofs.Marking.{between-more, between-none, between-within, bit-fits, length-with-mark, marks-more, marks-nothing, marks-taken, shifted}
+use Rattle.srecord.proofs.Marking.{between-more, between-none, between-within, bit-fits, length-with-mark, shifted}
+use Rattle.srecord.proofs.Marking.{marks-more, marks-nothing, marks-taken}
 use Rattle.srecord.proofs.marks.mark.Statement.{statement}
 use Rattle.srecord.proofs.marks.mark.Tie as tie
-use Rattle.srecord.proofs.marks.mark.Reads as reads
-use Rattle.srecord.proofs.marks.mark.Lts as lts
 
 abbrev Inv-loop : tie.InvT-loop
 Inv-loop marks₀ low high i₀ marks i =
@@ -45,12 +44,12 @@ unfolding marked
 loop-again c =
     let l : tie.At-loop Inv-loop μ-loop = search in
     let i = l .loop .i in
-    rw (shifted (i % 8) (omega arith))
-    (
+    rw (shifted (i % 8) (omega arith)) (
       omega arith,
       omega arith,
       length-with-mark (l .loop .marks) i ∙ l .loop .inv .2,
-      marks-more _ i (l .loop .inv .3) (omega arith) (between-none _ _ i (λ h. omega arith)) (ne-eqb _ _ (c .if1 .left)) (between-more _ i (l .loop .inv .0)),
+      marks-more _ i (l .loop .inv .3) (omega arith) (between-none _ _ i (λ h. omega arith)) (ne-eqb _ _ (c .if1 .left))
+          (between-more _ i (l .loop .inv .0)),
     )
 
 returns-2 : tie.Need-returns-2 Inv-loop μ-loop
