@@ -1,4 +1,6 @@
 pub mod Cutting
+pub mod Pairs
 pub mod Starts
 pub mod Summaries
-pub mod Pairs
+pub mod Marking
+pub mod Repeats

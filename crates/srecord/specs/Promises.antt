@@ -165,8 +165,21 @@ pub record FirstAgain (records : List (Option Record)) (limit low high line : �
 unfoldable pub marked : List ℕ → ℕ → Bool
 marked marks i = eqb (getD marks (i / 8) 0 / 2 ^ (i % 8) % 2) 1
 
--- Marking from `low` to below `high`: whether one of them was marked already; if not, they are marked now, and no other.
-pub record Marks (before : List ℕ) (low high : ℕ) (answer : Bool) (after : List ℕ) : Type 0 where
-  pub taken : answer ≡ true → (i : ℕ) × (low ≤ i) × (i < high) × (marked before i ≡ true)
-  pub free : answer ≡ false → (i : ℕ) → low ≤ i → i < high → marked before i ≡ false
-  pub now : answer ≡ false → (i : ℕ) → marked after i ≡ (marked before i || (leb low i && ltb i high))
+-- Marking the `wanted` ones of 1,048,576: whether one of them was marked already; if not, they are marked now, and no other.
+pub record Marks (before : List ℕ) (wanted : ℕ → Bool) (answer : Bool) (after : List ℕ) : Type 0 where
+  pub taken : answer ≡ true → (i : ℕ) × (i < 1048576) × (wanted i ≡ true) × (marked before i ≡ true)
+  pub free : answer ≡ false → (i : ℕ) → i < 1048576 → wanted i ≡ true → marked before i ≡ false
+  pub now : answer ≡ false → (i : ℕ) → i < 1048576 → marked after i ≡ (marked before i || wanted i)
+
+-- Whether an address is from `low` to below `high`.
+abbrev pub between : ℕ → ℕ → ℕ → Bool
+between low high a = leb low a && ltb a high
+
+-- Whether a line, as the code has it, writes an address,
+abbrev pub writesBy : Parsed → ℕ → Bool
+writesBy (parsed.Record r) a = between (r .address) (r .address + r .length) a
+writesBy parsed.Malformed a = false
+
+-- and whether it writes the one that is number i of the window at `low`.
+abbrev pub writesIn : ℕ → Parsed → ℕ → Bool
+writesIn low line i = writesBy line (low + i)
