@@ -1,2 +1,5 @@
 pub mod Addresses
+pub mod LineTests
+pub mod Loading
+pub mod Refusals
 pub mod Verdicts

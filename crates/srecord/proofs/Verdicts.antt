@@ -2,95 +2,23 @@
 -- earlier ones, `swept` each by itself, so they part only at a line that writes an address again.
 -- Assumes nothing.
 use mathlib.Core.Path.{_≡_, refl, sym, _∙_, ap}
-use mathlib.Core.Bool.{Bool, true, false, _&&_, _||_, and-eq-true-iff, cond, not, or-comm, or-true}
+use mathlib.Core.Bool.{Bool, true, false, _||_, and-eq-true-iff, cond, or-comm, or-true, true≢false}
 use mathlib.Core.Logic.{_↔_}
 use mathlib.Core.List.{List, [], _∷_}
 use mathlib.Core.Option.{Option, none, some}
-use Prim.Native.Nat.{ℕ, suc, _+_, _%_, _≤_, _<_}
+use Prim.Native.Nat.{ℕ, suc, _+_, _≤_, _<_}
 use native.Mathlib.Omega.{arith}
 use native.Mathlib.Nat.{le-refl, lt-irrefl, not-suc-le-zero}
 use borrow.Author.Count.{below-more}
-use borrow.Author.Tests.{eqb-true, leb-true, le-ltb, lt-ltb, ltb-false, ltb-true, ne-eqb}
+use borrow.Author.Tests.{eqb-true, leb-true, le-ltb, lt-ltb, ltb-false, ltb-true}
 use lib.Dec.{eqb, leb, ltb}
 use lib.ListN.{getD, length}
-use Rattle.memory.specs.Lengths.{first, test}
-use Rattle.srecord.specs.Load.{Verdict, closed, dataLines, endOf, isClosing, isCount, isData, judged, kindOf, recordTests, share, sum, verdict, writtenTwice}
-use Rattle.srecord.specs.Promises.{Again, Finding, FirstAgain, Once, finding, fresh, noted, singleTests, summary, swept, writes}
-use Rattle.srecord.specs.Records.{Record, address, carried, dataFor, dataOf}
-use Rattle.srecord.specs.declared.openings.Kind.{Kind}
-use Rattle.srecord.specs.declared.openings.Kind.the-variants.{Header, Data, Count, Closing}
+use Rattle.srecord.specs.Load.{Verdict, closed, dataLines, endOf, isClosing, isData, judged, kindOf, share, verdict, writtenTwice}
+use Rattle.srecord.specs.Promises.{Again, Finding, FirstAgain, Once, finding, fresh, noted, summary, swept, writes}
+use Rattle.srecord.specs.Records.{Record, address, dataOf}
 use Rattle.srecord.specs.declared.sweep.SoFar.{SoFar}
 use Rattle.srecord.proofs.Addresses.{inside, shared, shares}
-
--- 13 among a line's tests, where it and 14 are not both given: it decides where no other test does.
-among :
-    (a b c d e : Bool) → (d ≡ true → e ≡ true → ⊥) →
-    let others = first (test 10 a ∷ test 11 b ∷ test 12 c ∷ test 14 e ∷ []) in
-    first (test 10 a ∷ test 11 b ∷ test 12 c ∷ test 13 d ∷ test 14 e ∷ []) ≡ cond (eqb others 0) (cond d 13 0) others
-among true b c d e h = refl
-among false true c d e h = refl
-among false false true d e h = refl
-among false false false false true h = refl
-among false false false false false h = refl
-among false false false true false h = refl
-among false false false true true h = absurd (h refl refl)
-
--- What passes, passes 12.
-passes : (a b c e : Bool) → first (test 10 a ∷ test 11 b ∷ test 12 c ∷ test 14 e ∷ []) ≡ 0 → c ≡ false
-passes true b c e h = cc
-passes false true c e h = cc
-passes false false true e h = cc
-passes false false false e h = refl
-
--- An S5 line writes nothing.
-count-writes-nothing : (r : Record) (a : ℕ) → isCount (kindOf r) ≡ true → writes (some r) a ≡ true → ⊥
-count-writes-nothing r a h w = go (kindOf r) (carried r) h (inside r a w)
-  where
-    go :
-        (kind : Kind) (bytes : List ℕ) → isCount kind ≡ true →
-        (address r ≤ a) × (a < address r + length (dataFor kind bytes)) → ⊥
-    go Header bytes h w = omega arith
-    go Data bytes h w = let z : _≡_ {A = ℕ} 0 1 = cc in omega arith
-    go Count bytes h w = omega arith
-    go Closing bytes h w = omega arith
-
-module _ (size : ℕ) (r : Record) where
-  -- The refusal of a line by itself, and its tests 11, 12 and 14.
-  abbrev alone : Bool → ℕ → ℕ
-  alone shut count = first (singleTests size shut count (summary r))
-
-  abbrev bad : Bool
-  bad = not (eqb (sum (r .bytes) % 256) 0xff)
-
-  abbrev outside : Bool
-  outside = not (eqb (length (dataOf r)) 0) && ltb size (endOf r)
-
-  abbrev wrong : ℕ → Bool
-  wrong count = isCount (kindOf r) && not (eqb (address r) count)
-
-  -- A line that passes writes below the memory's end.
-  below : (shut : Bool) (count a : ℕ) → alone shut count ≡ 0 → writes (some r) a ≡ true → a < size
-  unfolding singleTests
-  below shut count a e h =
-      let w = inside r a h in
-      let carries : length (dataOf r) ≡ 0 → ⊥ = λ empty. omega arith in
-      let passed : outside ≡ false = passes shut bad outside (wrong count) e in
-      let fits : endOf r ≤ size = ltb-false _ _ (rw (ne-eqb (length (dataOf r)) 0 carries) at passed) in
-      omega arith
-
-  -- A line's refusal among the earlier ones, from that by itself.
-  refusal :
-      (earlier : List Record) → (writtenTwice r earlier ≡ true → (a : ℕ) × (writes (some r) a ≡ true)) →
-      let number = alone (closed earlier) (dataLines earlier) in
-      first (recordTests size earlier r) ≡ cond (eqb number 0) (cond (writtenTwice r earlier) 13 0) number
-  unfolding recordTests singleTests
-  refusal earlier writing =
-      let count = dataLines earlier in
-      among (closed earlier) bad outside (writtenTwice r earlier) (wrong count)
-      (λ again fails.
-      let w = writing again in
-      let counts = and-eq-true-iff (isCount (kindOf r)) (not (eqb (address r) count)) .0 fails in
-      count-writes-nothing r (w .0) (counts .0) (w .1))
+use Rattle.srecord.proofs.LineTests.{alone, below, refusal}
 
 passed-from : (size n : ℕ) (s : SoFar) (ls : List (Option Record)) → n ≤ swept size n s ls .passed
 unfolding swept
@@ -191,8 +119,16 @@ module _ (size : ℕ) (ls : List (Option Record)) where
         further : f ≡ swept size (n + 1) (noted s (summary r)) rest → n + 1 ≤ f .passed
         further found = rw found (passed-from size (n + 1) (noted s (summary r)) rest)
 
-        again : k ≡ n → Again ls k → writtenTwice r earlier ≡ true
-        again last y = x .before r .1 (y .address, y .earlier, omega (arith, y .before), rw (last, here) at (y .second), y .first)
+        -- Before line k none writes an address again, and line k does.
+        twice-before : Meets n r → number ≡ 0 → n < k → ⊥
+        twice-before m e less =
+            let fits = below size r (s .closed) (s .count) (m .0) e (m .3) in
+            w .once (m .1) n (m .0) (m .2) less (omega arith) fits (m .4) (rw here (m .3))
+
+        again : k ≡ n → Again ls k → writtenTwice r earlier ≡ false → ⊥
+        again last y once =
+            let m : Meets n r = (y .address, y .earlier, omega (arith, y .before), rw (last, here) at (y .second), y .first) in
+            true≢false (sym (x .before r .1 m) ∙ once)
 
         go :
             (passes twice : Bool) → eqb number 0 ≡ passes → writtenTwice r earlier ≡ twice →
@@ -202,16 +138,11 @@ module _ (size : ℕ) (ls : List (Option Record)) where
         go false twice e t found = rw e (stopped n number (n + 1) (s .ordered) low found)
         go true true e t found =
             let m = x .before r .0 t in
-            let inside = below size r (s .closed) (s .count) (m .0) (eqb-true number 0 e) (m .3) in
-            let unless : n < k → ⊥ =
-            λ more. w .once (m .1) n (m .0) (m .2) more (omega arith) inside (m .4) (rw here (m .3)) in
-            let last : n ≡ k = omega arith in
+            let last : n ≡ k = omega (arith, twice-before m (eqb-true number 0 e)) in
             let fits : k < f .passed = omega (arith, further found) in
             rw (lt-ltb k (f .passed) fits, last)
         go true false e t found =
-            let unless : k ≡ n → ⊥ =
-            λ last. let met = again last (w .again (omega (arith, further found))) in
-            let z : _≡_ {A = ℕ} 0 1 = cc in omega arith in
+            let unless : k ≡ n → ⊥ = λ last. again last (w .again (omega (arith, further found))) t in
             later (omega arith) found
 
     walk :
