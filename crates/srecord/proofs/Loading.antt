@@ -13,7 +13,8 @@ use lib.Dec.{eqb}
 use lib.ListN.{getD, length, length-set, set}
 use lib.Seq.{getD-set-other, getD-set-same, length-sets, sets}
 use Rattle.memory.specs.Lengths.{first, refusedLength}
-use Rattle.srecord.specs.Load.{Loads, Verdict, endOf, judged, memoryAfter, placed, recordTests, records, share, verdict, verdictOn, writtenTwice}
+use Rattle.srecord.specs.Load.{Loads, Verdict, endOf, judged, memoryAfter}
+use Rattle.srecord.specs.Load.{placed, recordTests, records, share, verdict, verdictOn, writtenTwice}
 use Rattle.srecord.specs.Promises.{writes}
 use Rattle.srecord.specs.Records.{Record, address, dataOf}
 use Rattle.srecord.specs.declared.Loaded.{Loaded}
@@ -34,14 +35,14 @@ module _ (text memory : List ℕ) where
   refused-changes-nothing h = rw (ne-eqb (verdictOn text (length memory) .number) 0 h)
 
 -- Bytes behind each other: those at other addresses stay, and the others are theirs.
-pub kept-beside :
+kept-beside :
     (vs l : List ℕ) (i a : ℕ) → (i ≤ a → a < i + length vs → ⊥) → getD (sets l i vs) a 0 ≡ getD l a 0
 kept-beside [] l i a h = refl
 kept-beside (v ∷ vs) l i a h =
     kept-beside vs (set l i v) (suc i) a (λ p q. h (omega arith) (omega arith))
     ∙ getD-set-other l i a v 0 (λ e. h (omega arith) (omega arith))
 
-pub theirs-within :
+theirs-within :
     (vs l : List ℕ) (i k : ℕ) → k < length vs → i + k < length l → getD (sets l i vs) (i + k) 0 ≡ getD vs k 0
 theirs-within [] l i k h fits = absurd (not-suc-le-zero h)
 theirs-within (v ∷ vs) l i zero h fits =
@@ -53,7 +54,7 @@ theirs-within (v ∷ vs) l i (suc k) h fits =
     rw along
     (theirs-within vs (set l i v) (suc i) k (omega arith) (rw length-set (rw along at fits)))
 
-pub length-placed : (memory : List ℕ) (ls : List (Option Record)) → length (placed memory ls) ≡ length memory
+length-placed : (memory : List ℕ) (ls : List (Option Record)) → length (placed memory ls) ≡ length memory
 unfolding placed
 length-placed memory [] = refl
 length-placed memory (none ∷ rest) = length-placed memory rest
