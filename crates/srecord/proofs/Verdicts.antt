@@ -159,35 +159,6 @@ module _ (size : ℕ) (ls : List (Option Record)) where
         step n s earlier r rest x low e
         (walk rest (n + 1) (noted s (summary r)) (r ∷ earlier) (next n s earlier r rest x))
 
--- What one sweep finds.
-abbrev found : ℕ → List (Option Record) → Finding
-found size ls = swept size 0 fresh ls
-
-module _ (size : ℕ) (ls : List (Option Record)) where
-  -- The definition's verdict, from what the sweep finds and the first line that writes an address again.
-  pub verdict-found :
-      (k : ℕ) → FirstAgain ls (found size ls .passed) 0 size k →
-      judged size 1 [] ls
-      ≡ cond (ltb k (found size ls .passed)) (verdict 13 (k + 1)) (verdict (found size ls .number) (found size ls .line))
-  unfolding answer closed dataLines
-  verdict-found k w =
-      walk size ls k (found size ls) w ls 0 fresh []
-      (record { rests = λ i. ap (λ (i : ℕ). getD ls i none) (omega arith); before = before-first size ls; shut = refl; counted = refl })
-      (omega arith)
-      refl
-
-  pub verdict-once :
-      Once ls (found size ls .passed) 0 size → judged size 1 [] ls ≡ verdict (found size ls .number) (found size ls .line)
-  verdict-once once =
-      let n = found size ls .passed in
-      verdict-found n (record { within = le-refl n; once = once; again = λ less. absurd (lt-irrefl n less) })
-      ∙ rw (le-ltb n n (le-refl n))
-
-  pub verdict-again :
-      (n : ℕ) → n < found size ls .passed → Once ls n 0 size → Again ls n → judged size 1 [] ls ≡ verdict 13 (n + 1)
-  verdict-again n less once again =
-      verdict-found n (record { within = omega arith; once = once; again = λ _. again }) ∙ rw (lt-ltb n (found size ls .passed) less)
-
 -- Lines whose data stand in order write no address twice: each begins at or behind the end of all before it.
 module _ (ls : List (Option Record)) (low high : ℕ) where
   abbrev at : ℕ → Option Record
@@ -244,9 +215,35 @@ module _ (ls : List (Option Record)) (low high : ℕ) where
       go true number f later = later
       go false number f later = λ o. x o .1
 
--- Of all addresses, wherever they lie.
-pub ordered-once :
-    (size high : ℕ) (ls : List (Option Record)) → swept size 0 fresh ls .ordered ≡ true → Once ls (swept size 0 fresh ls .passed) 0 high
-ordered-once size high ls =
-    sweep-in-order ls 0 high size ls 0 fresh (λ i. ap (λ (i : ℕ). getD ls i none) (omega arith))
-    (λ o. (λ i a h. absurd (not-suc-le-zero h), λ i j a h k. absurd (not-suc-le-zero k)))
+-- What one sweep finds, in these terms.
+module _ (size : ℕ) (ls : List (Option Record)) (f : Finding) (sweeps : f ≡ swept size 0 fresh ls) where
+  from-first : (i : ℕ) → getD ls i none ≡ getD ls (0 + i) none
+  from-first i = ap (λ (i : ℕ). getD ls i none) (omega arith)
+
+  -- Of all addresses, wherever they lie.
+  pub ordered-once : (high : ℕ) → f .ordered ≡ true → Once ls (f .passed) 0 high
+  ordered-once high =
+      rw sweeps
+      (sweep-in-order ls 0 high size ls 0 fresh from-first
+      (λ o. (λ i a h. absurd (not-suc-le-zero h), λ i j a h k. absurd (not-suc-le-zero k))))
+
+  -- The definition's verdict, from what the sweep finds and the first line that writes an address again.
+  pub verdict-found :
+      (n : ℕ) → FirstAgain ls (f .passed) 0 size n →
+      judged size 1 [] ls ≡ cond (ltb n (f .passed)) (verdict 13 (n + 1)) (verdict (f .number) (f .line))
+  unfolding answer closed dataLines
+  verdict-found n w =
+      walk size ls n f w ls 0 fresh []
+      (record { rests = from-first; before = before-first size ls; shut = refl; counted = refl })
+      (omega arith)
+      sweeps
+
+  pub verdict-once : Once ls (f .passed) 0 size → judged size 1 [] ls ≡ verdict (f .number) (f .line)
+  verdict-once once =
+      let n = f .passed in
+      verdict-found n (record { within = le-refl n; once = once; again = λ less. absurd (lt-irrefl n less) })
+      ∙ rw (le-ltb n n (le-refl n))
+
+  pub verdict-again : (n : ℕ) → n < f .passed → Once ls n 0 size → Again ls n → judged size 1 [] ls ≡ verdict 13 (n + 1)
+  verdict-again n less once again =
+      verdict-found n (record { within = omega arith; once = once; again = λ _. again }) ∙ rw (lt-ltb n (f .passed) less)
