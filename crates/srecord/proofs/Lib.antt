@@ -1,5 +1,9 @@
+pub mod Cutting
+pub mod Starts
+pub mod Summaries
+pub mod Pairs
+pub mod Refusals
 pub mod Addresses
 pub mod LineTests
 pub mod Loading
-pub mod Refusals
 pub mod Verdicts

@@ -2,7 +2,7 @@
 -- earlier ones, `swept` each by itself, so they part only at a line that writes an address again.
 -- Assumes nothing.
 use mathlib.Core.Path.{_≡_, refl, sym, _∙_, ap}
-use mathlib.Core.Bool.{Bool, true, false, _||_, and-eq-true-iff, cond, or-comm, or-true, true≢false}
+use mathlib.Core.Bool.{Bool, true, false, _||_, and-eq-true-iff, cond, or-true, true≢false}
 use mathlib.Core.Logic.{_↔_}
 use mathlib.Core.List.{List, [], _∷_}
 use mathlib.Core.Option.{Option, none, some}
@@ -13,7 +13,7 @@ use borrow.Author.Count.{below-more}
 use borrow.Author.Tests.{eqb-true, leb-true, le-ltb, lt-ltb, ltb-false, ltb-true}
 use lib.Dec.{eqb, leb, ltb}
 use lib.ListN.{getD, length}
-use Rattle.srecord.specs.Load.{Verdict, closed, dataLines, endOf, isClosing, isData, judged, kindOf, share, verdict, writtenTwice}
+use Rattle.srecord.specs.Load.{Verdict, closed, dataLines, endOf, isData, judged, kindOf, share, verdict, writtenTwice}
 use Rattle.srecord.specs.Promises.{Again, Finding, FirstAgain, Once, finding, fresh, noted, summary, swept, writes}
 use Rattle.srecord.specs.Records.{Record, address, dataOf}
 use Rattle.srecord.specs.declared.sweep.SoFar.{SoFar}
@@ -78,7 +78,7 @@ module _ (size : ℕ) (ls : List (Option Record)) where
       record {
         rests = λ i. x .rests (suc i) ∙ ap line (omega arith);
         before = one-more n earlier r (sym (x .rests 0 ∙ ap line (omega arith))) (x .before);
-        shut = rw (x .shut) (or-comm (closed earlier) (isClosing (kindOf r)));
+        shut = rw (x .shut);
         counted = rw (x .counted) (go (isData (kindOf r)));
       }
     where

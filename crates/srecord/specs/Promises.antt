@@ -40,6 +40,10 @@ abbrev pub contentBy : List ℕ → End → Option (List ℕ)
 contentBy line (end.At e) = some (take e line)
 contentBy line end.Missing = none
 
+-- A line's first two bytes are those of a start.
+abbrev pub begins : List ℕ → List ℕ → Bool
+begins line start = eqb (getD line 0 0) (getD start 0 0) && eqb (getD line 1 0) (getD start 1 0)
+
 -- An opening, as the code has it.
 abbrev pub foundOf : Option Opening → Found
 foundOf none = found.Unknown
@@ -104,7 +108,7 @@ unfoldable pub noted : SoFar → Summary → SoFar
 noted s r =
     record {
       count = cond (isData (r .kind)) (s .count + 1) (s .count);
-      closed = s .closed || isClosing (r .kind);
+      closed = isClosing (r .kind) || s .closed;
       top = cond (eqb (r .length) 0) (s .top) (r .address + r .length);
       ordered = s .ordered && (eqb (r .length) 0 || leb (s .top) (r .address));
     }
