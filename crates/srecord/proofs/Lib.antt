@@ -4,3 +4,8 @@ pub mod Starts
 pub mod Summaries
 pub mod Marking
 pub mod Repeats
+pub mod Refusals
+pub mod Addresses
+pub mod LineTests
+pub mod Verdicts
+pub mod Loading

@@ -118,17 +118,17 @@ fn with_bytes(kind: Kind, width: usize, digits: &[u8]) -> Parsed
             if n != count + 1 {
                 return Parsed::Malformed;
             }
-            if !may(kind, width + 1, count) {
-                return Parsed::Malformed;
+            if may(kind, width + 1, count) {
+                let carried = count - (width + 1);
+                return Parsed::Record(Summary {
+                    kind: kind,
+                    width: width,
+                    address: number(digits, 1, width),
+                    length: data_length(kind, carried as u32),
+                    checks: sum == 255,
+                });
             }
-            let carried = count - (width + 1);
-            Parsed::Record(Summary {
-                kind: kind,
-                width: width,
-                address: number(digits, 1, width),
-                length: data_length(kind, carried as u32),
-                checks: sum == 255,
-            })
+            Parsed::Malformed
         }
     }
 }
