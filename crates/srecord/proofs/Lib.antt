@@ -4,6 +4,8 @@ pub mod Starts
 pub mod Summaries
 pub mod Marking
 pub mod Repeats
+pub mod Sweeping
+pub mod Placement
 pub mod Refusals
 pub mod Addresses
 pub mod LineTests

@@ -25,7 +25,7 @@ use Rattle.srecord.specs.declared.records.Total.{Total}
 use Rattle.srecord.specs.declared.records.Total.the-variants as total
 use Rattle.srecord.specs.declared.sweep.SoFar.{SoFar}
 use Rattle.srecord.specs.declared.sweep.Swept.{Swept}
-use Rattle.srecord.specs.Lines.{lines}
+use Rattle.srecord.specs.Lines.{content, lines}
 use Rattle.srecord.specs.Records.{Opening, Record, address, bytesOf, dataOf, withBytes}
 use Rattle.srecord.specs.Load.{endOf, isClosing, isCount, isData, kindOf, refusalNumber, sum}
 
@@ -39,6 +39,14 @@ pub record LineAt (text : List ℕ) (at next : ℕ) : Type 0 where
 abbrev pub contentBy : List ℕ → End → Option (List ℕ)
 contentBy line (end.At e) = some (take e line)
 contentBy line end.Missing = none
+
+abbrev pub insideOf : List ℕ → End → Type 0
+insideOf line (end.At e) = e ≤ length line
+insideOf line end.Missing = Unit {0}
+
+pub record EndsAt (line : List ℕ) (e : End) : Type 0 where
+  pub same : contentBy line e ≡ content line
+  pub within : insideOf line e
 
 -- A line's first two bytes are those of a start.
 abbrev pub begins : List ℕ → List ℕ → Bool
