@@ -54,18 +54,6 @@ pub call-refused :
     called (record { refusal = why; machine = m; steps = 0 }) memory ≡ calling number done (over m memory)
 call-refused why done m memory h e = rw (sym e) (turned-away why done m memory h)
 
--- A length refused for another reason than 1 is refused for reason 2.
-pub size-left : (length : ℕ) {k : ℕ} → k ≡ refusedLength length → (k ≡ 0 → ⊥) → (k ≡ 1 → ⊥) → 2 ≡ refusedLength length
-size-left length e some other =
-    go (not (eqb (length % 4) 0)) (ltb length 1024 || ltb 16777216 length) (λ none. some (e ∙ none)) (λ one. other (e ∙ one))
-  where
-    go :
-        (ragged missized : Bool) → (first (test 1 ragged ∷ test 2 missized ∷ []) ≡ 0 → ⊥) →
-        (first (test 1 ragged ∷ test 2 missized ∷ []) ≡ 1 → ⊥) → 2 ≡ first (test 1 ragged ∷ test 2 missized ∷ [])
-    go true missized some other = absurd (other refl)
-    go false true some other = refl
-    go false false some other = absurd (some refl)
-
 module _ (m : Machine) (memory : List ℕ) where
   abbrev unmasked : Bool
   unmasked = not (eqb (masked (m .control .sr)) (m .control .sr))

@@ -6,6 +6,7 @@ use mathlib.Core.Option.{Option, none, some}
 use Prim.Native.Nat.{ℕ, _+_, _*_, _-_, _/_, _%_, _^_, _<_, _≤_}
 use lib.Dec.{eqb, leb, ltb}
 use lib.ListN.{drop, getD, length, take}
+use lib.Seq.{sets}
 use Rattle.memory.specs.Access.{valueAt}
 use Rattle.memory.specs.Lengths.{Test, first, test}
 use Rattle.text.specs.Reading.{value}
@@ -191,3 +192,14 @@ writesBy parsed.Malformed a = false
 -- and whether it writes the one that is number i of the window at `low`.
 abbrev pub writesIn : ℕ → Parsed → ℕ → Bool
 writesIn low line i = writesBy line (low + i)
+
+-- The bytes that n pairs of digits make from number `from` on, written from an address on.
+abbrev pub PlacesData : List ℕ → ℕ → ℕ → List ℕ → ℕ → List ℕ → Type 0
+PlacesData digits from n memory address after =
+    (bytes : List ℕ) → length bytes ≡ n → ((i : ℕ) → i < n → pairAt digits (from + i) ≡ read.Number (getD bytes i 0)) →
+    after ≡ sets memory address bytes
+
+-- One line's data written.
+abbrev pub placedBy : List ℕ → Option Record → List ℕ
+placedBy memory none = memory
+placedBy memory (some r) = sets memory (address r) (dataOf r)

@@ -97,18 +97,18 @@ fn verdict(text: &[u8], size: usize) -> Loaded
         };
     }
     let swept = sweep::sweep(text, size);
-    if !swept.ordered {
-        let n = twice::first_again(text, size, swept.passed);
-        if n < swept.passed {
-            return Loaded {
-                refusal: Refusal::Twice,
-                line: n + 1,
-            };
-        }
-    }
     let refusal = swept.refusal;
-    Loaded {
-        refusal: refusal,
-        line: swept.line,
+    let line = swept.line;
+    // Data in order of their addresses: no address can be written twice.
+    if swept.ordered {
+        return Loaded { refusal, line };
     }
+    let n = twice::first_again(text, size, swept.passed);
+    if n < swept.passed {
+        return Loaded {
+            refusal: Refusal::Twice,
+            line: n + 1,
+        };
+    }
+    Loaded { refusal, line }
 }

@@ -2,7 +2,7 @@
 -- Assumes nothing.
 use lib.ListN.{length}
 use borrow.Author.Needs.{needs}
-use Rattle.machine.proofs.Calling.{size-left}
+use Rattle.memory.proofs.Acceptance.{size-left}
 use Rattle.machine.proofs.calls.refused_memory.Statement.{statement}
 use Rattle.machine.proofs.calls.refused_memory.Tie as tie
 

@@ -1,73 +1,36 @@
+-- `place_data` has written the first i of the bytes: the rest, written behind them, leaves what all of them leave.
+-- Assumes nothing.
+use mathlib.Core.Path.{_≡_, refl, _∙_}
+use Prim.Native.Nat.{_-_, _≤_}
+use native.Mathlib.Omega.{arith}
+use borrow.Author.Needs.{needs}
+use lib.ListN.{length, length-set}
+use Rattle.srecord.proofs.Placement.{StillPlaces, all-placed, none-placed, one-placed}
 use Rattle.srecord.proofs.placing.place_data.Statement.{statement}
 use Rattle.srecord.proofs.placing.place_data.Tie as tie
-use Rattle.srecord.proofs.placing.place_data.Reads as reads
-use Rattle.srecord.proofs.placing.place_data.Lts as lts
-use Rattle.srecord.proofs.records.byte.Reads as byte-reads
 
 abbrev Inv-loop : tie.InvT-loop
-Inv-loop digits from length memory₀ address n i₀ memory i = ?
+Inv-loop digits from n memory₀ address i₀ memory i =
+    (i ≤ n) × (length memory ≡ length memory₀) × StillPlaces digits from n memory₀ address i memory
 
 abbrev μ-loop : tie.MeasureT-loop
-μ-loop digits from length memory₀ address n i₀ memory i = ?
-
--- src/placing.rt:13:5
-loop-holds : tie.Need-loop-holds Inv-loop μ-loop
-loop-holds c = ?
-
--- src/placing.rt:14:12
-add-if1 : tie.Need-add-if1 Inv-loop μ-loop
-add-if1 c = ?
-
--- src/placing.rt:15:57
-add-byte : tie.Need-add-byte Inv-loop μ-loop
-add-byte c = ?
-
--- src/placing.rt:15:35
-byte-requires : tie.Need-byte-requires Inv-loop μ-loop
-byte-requires c κs = ?
-
--- src/placing.rt:15:20
-add-memory : tie.Need-add-memory Inv-loop μ-loop
-add-memory c = ?
-
--- src/placing.rt:15:13
-slice-write-memory : tie.Need-slice-write-memory Inv-loop μ-loop
-slice-write-memory c = ?
-
--- src/placing.rt:17:9
-add-i : tie.Need-add-i Inv-loop μ-loop
-add-i c = ?
-
--- src/placing.rt:13:5
-loop-less : tie.Need-loop-less Inv-loop μ-loop
-loop-less c = ?
-
--- src/placing.rt:13:5
-loop-again : tie.Need-loop-again Inv-loop μ-loop
-loop-again c = ?
-
--- src/placing.rt:9:1
-same-length : tie.Need-same-length Inv-loop μ-loop
-same-length c = ?
-
--- src/placing.rt:9:1
-returns : tie.Need-returns Inv-loop μ-loop
-returns c = ?
+μ-loop digits from n memory₀ address i₀ memory i = n - i
 
 pub place-data-spec : {M : Type 1} → statement M
 place-data-spec =
     tie.close
-    (tie.spec
-    Inv-loop
-    μ-loop
-    loop-holds
-    add-if1
-    add-byte
-    byte-requires
-    add-memory
-    slice-write-memory
-    add-i
-    loop-less
-    loop-again
-    same-length
-    returns)
+    (tie.spec Inv-loop μ-loop
+    (λ c. (search needs, search needs, none-placed (c .before .before .args .digits .now) (c .before .before .args .from) (c .before .before .args .n) (c .before .before .args .memory .now) (c .before .before .args .address)))
+    (search needs) (search needs) (λ c κs. omega arith) (search needs) (search needs) (search needs) (search needs) (search needs)
+    (λ c.
+    let a = c .before .before .before .before .before .before .before .before .before .args in
+    let now = c .before .before .before .before .before .before .loop in
+    let b : tie.After-byte Inv-loop μ-loop = search in (
+      search needs,
+      rw (c .before .before .put .ensures, length-set) (now .inv .1),
+      rw (c .before .before .put .ensures)
+      (one-placed (a .digits .now) (a .from) (a .n) (a .memory .now) (a .address) (now .i) (now .memory) (now .inv .2) (b .byte .result) (omega arith) (b .byte .ensures)),
+    ))
+    (search needs)
+    (λ c. let a = c .before .before .before .before .args in let now = c .before .loop in
+    all-placed (a .digits .now) (a .from) (a .n) (a .memory .now) (a .address) (now .i) (now .memory) (now .inv .2) (c .loop-test .left)))
