@@ -57,13 +57,13 @@ def accepted_text(draw):
     return b"".join(in_some_case(draw, record_line(*parts, draw.choice(ends))) for parts in records(draw))
 
 
-def repaired(line):
-    """The line with the check byte that its other bytes ask for, where it has bytes."""
+def rechecked(line, error):
+    """The line with the check byte that its other bytes ask for, or by so much another; a line that has no bytes stays."""
     parts = spelled(line)
     if parts is None or not parts[1]:
         return line
     body = line.rstrip(b"\r\n")
-    return body[:-2] + b"%02X" % (0xFF - sum(parts[1][:-1]) % 256) + line[len(body):]
+    return body[:-2] + b"%02X" % ((0xFF - sum(parts[1][:-1]) + error) % 256) + line[len(body):]
 
 
 def put(text, at, length, letters):
@@ -80,12 +80,12 @@ def letter(draw):
 
 
 def in_one_line(damage):
-    """Damage to a line as damage to a text: some line of it, with its check byte repaired for the most part."""
+    """Damage to a line as damage to a text: some line of it, with the check byte right for the most part."""
     def in_text(draw, text):
         all_lines = lines(text) or [b""]
         at = draw.randrange(len(all_lines))
-        damaged = damage(draw, all_lines[at], all_lines)
-        all_lines[at] = damaged if draw.random() < 0.2 else repaired(damaged)
+        error = draw.choice((0, 0, 0, 0, draw.randrange(256)))
+        all_lines[at] = rechecked(damage(draw, all_lines[at], all_lines), error)
         return b"".join(all_lines)
     return in_text
 
@@ -181,6 +181,14 @@ def line_added(draw, text):
     return text + draw.choice(more)
 
 
+def end_overwritten(draw, text):
+    """The memory's last bytes written, and a line that writes them again or begins beside them and goes on."""
+    all_lines, last = lines(text), draw.randrange(1, 20)
+    for address, length in (SIZE - last, last), (SIZE - draw.randrange(1, 40), draw.randrange(1, 40)):
+        all_lines.insert(draw.randrange(len(all_lines) + 1), record_line(draw.choice(DATA), address, draw.randbytes(length)))
+    return b"".join(all_lines)
+
+
 def cut(draw, text):
     return text[:place(draw, text)]
 
@@ -193,7 +201,7 @@ DAMAGES = [in_one_line(damage) for damage in (
     digit_changed, moved_onto_another, moved_onto_another, moved_out, miscounted, retyped, recounted, given_data,
 )] + [
     letter_changed, letter_dropped, letter_inserted, line_dropped, line_doubled, lines_exchanged, line_feed_removed,
-    carriage_return_inserted, line_added, cut, left,
+    carriage_return_inserted, line_added, end_overwritten, cut, left,
 ]
 
 
