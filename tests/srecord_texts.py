@@ -126,7 +126,11 @@ def retyped(draw, line, _):
 
 def recounted(draw, line, _):
     """Another count of bytes, or a digit or byte too few or too many."""
-    return draw.choice((put(line, 2, 2, b"%02X" % draw.randrange(256)), put(line, 4, draw.randrange(3), b""), put(line, 4, 0, b"0"), put(line, 4, 0, b"00")))
+    return draw.choice((
+        put(line, 2, 2, b"%02X" % draw.randrange(256)),
+        put(line, 4, draw.choice((1, 2)), b""),
+        put(line, 4, 0, draw.choice((b"0", b"00"))),
+    ))
 
 
 def given_data(draw, line, _):
@@ -177,8 +181,10 @@ def carriage_return_inserted(draw, text):
 
 
 def line_added(draw, text):
-    more = b"\n", b"\r\n", b" ", b"\n\n", record_line(draw.choice(CLOSING), 0), record_line(b"S0", 0), record_line(b"S1", place(draw, text), b"x")
-    return text + draw.choice(more)
+    """A line behind the closing one: blank, or sound, or with a fault of its own."""
+    kind = draw.choice(list(ADDRESS_BYTES))
+    line = record_line(kind, any_address(draw, kind), draw.choice((b"", b"x")))
+    return text + draw.choice((b"\n", b"\r\n", b" ", line, rechecked(line, 1)))
 
 
 def end_overwritten(draw, text):
