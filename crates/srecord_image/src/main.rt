@@ -2,29 +2,32 @@
 use libc::STDIN_FILENO;
 use libc::STDOUT_FILENO;
 
-// The longest text that is read, 1 MiB, and one byte more, to see that there is more.
-const LIMIT: usize = 1048576;
+// The longest text that is taken: 1 MiB.
+const LONGEST: usize = 1048576;
 
 fn main() {
+    // One byte more than the longest text, to see that there is more.
     let mut text = [0u8; 1048577];
     let mut memory = [0u8; 65536];
-    let mut line = [0u8; 40];
     let length = io::read_full(STDIN_FILENO, &mut text);
-    if length > LIMIT {
-        io::write_all(STDOUT_FILENO, b"The text is longer than 1,048,576 bytes, which is the most that is read.\n");
+    print_image(&text[..length], &mut memory);
+}
+
+fn print_image(text: &[u8], memory: &mut [u8]) {
+    if text.len() > LONGEST {
+        io::write_all(STDOUT_FILENO, b"The text is longer than 1,048,576 bytes, the most that is taken.\n");
         return;
     }
-    let answer = srecord::load(&text[..length], &mut memory);
+    let answer = srecord::load(text, memory);
     let refusal = answer.refusal;
     let number = refusal.number();
     if number == 0 {
-        io::write_all(STDOUT_FILENO, &memory);
+        io::write_all(STDOUT_FILENO, memory);
         return;
     }
-    let place = text::write(&mut line, 0, b"refused ");
-    let place = text::decimal(&mut line, place, 2, number);
-    let place = text::write(&mut line, place, b" line ");
-    let place = text::decimal(&mut line, place, 7, answer.line as u32);
-    let place = text::write(&mut line, place, b"\n");
-    io::write_all(STDOUT_FILENO, &line[..place]);
+    io::write_all(STDOUT_FILENO, b"refused ");
+    io::print_decimal(STDOUT_FILENO, number as u64);
+    io::write_all(STDOUT_FILENO, b" line ");
+    io::print_decimal(STDOUT_FILENO, answer.line as u64);
+    io::write_all(STDOUT_FILENO, b"\n");
 }
