@@ -4,7 +4,7 @@ use crate::Refusal;
 use crate::openings;
 use std::num::wrapping_add_u8;
 ghost use mathlib.Core.Path.{_≡_};
-ghost use Prim.Native.Nat.{_+_, _*_, _/_, _%_, _<_, _≤_};
+ghost use Prim.Native.Nat.{_+_, _*_, _/_, _%_, _<_, _≤_, min};
 ghost use lib.ListN.{length};
 ghost use lib.Seq.{sets};
 ghost use Rattle.text.specs.Text as Text;
@@ -49,7 +49,7 @@ fn sum(bytes: &[u8]) -> u8
 
 // Writes a line, and answers the place behind it.
 fn line(buffer: &mut [u8], at: usize, start: &[u8; 2], address: u32, bytes: &[u8]) -> usize
-    requires { ⌜ (length (now bytes) ≤ 16) × (at + (2 * length (now bytes) + 15) ≤ length (now buffer)) ⌝ }
+    requires { ⌜ (length (now start) ≡ 2) × (length (now bytes) ≤ 16) × (at + (2 * length (now bytes) + 15) ≤ length (now buffer)) ⌝ }
     ensures { λ end. ⌜ Export.Places (Export.lineOf (now (start .entry)) address (now (bytes .entry))) (now (buffer .entry)) at (now (buffer .exit)) end ⌝ }
 {
     let head = [
@@ -70,6 +70,16 @@ fn line(buffer: &mut [u8], at: usize, start: &[u8; 2], address: u32, bytes: &[u8
     end + 3
 }
 
+// How many of the bytes that are left the next line has.
+fn piece(left: usize) -> usize
+    ensures { λ k. ⌜ k ≡ min 16 left ⌝ }
+{
+    if left < 16 {
+        return left;
+    }
+    16
+}
+
 fn data_lines(memory: &[u8], buffer: &mut [u8]) -> usize
     requires { ⌜ (length (now memory) ≤ 16777216) × (2 * length (now memory) + 15 * ((length (now memory) + 15) / 16) ≤ length (now buffer)) ⌝ }
     ensures { λ end. ⌜ Export.Places (Export.dataLines ((length (now (memory .entry)) + 15) / 16) 0 (now (memory .entry))) (now (buffer .entry)) 0 (now (buffer .exit)) end ⌝ }
@@ -78,9 +88,9 @@ fn data_lines(memory: &[u8], buffer: &mut [u8]) -> usize
     let mut place = 0;
     let mut at = 0;
     while at < n {
-        let end = if n - at < 16 { n } else { at + 16 };
+        let end = at + piece(n - at);
         place = line(buffer, place, &openings::S3, at as u32, &memory[at..end]);
-        at = end;
+        at += 16;
     }
     place
 }

@@ -1,0 +1,4 @@
+pub mod Exports
+pub mod Pairs
+pub mod Refusals
+pub mod WrittenLines

@@ -1,0 +1,46 @@
+-- Laws of refusals: the paper's number tells which one it is, and a length that is refused for another reason than 1 is refused for reason 2.
+-- Assumes nothing.
+use mathlib.Core.Path.{_≡_, refl, sym, ap, _∙_}
+use mathlib.Core.Bool.{Bool, true, false, _||_, cond, not}
+use mathlib.Core.List.{List, [], _∷_}
+use Prim.Native.Nat.{ℕ, _%_}
+use lib.Dec.{eqb, ltb}
+use Rattle.memory.specs.Lengths.{first, refusedLength, test}
+use Rattle.srecord.specs.Load.{refusalNumber}
+use Rattle.srecord.specs.declared.Refusal.{Refusal}
+use Rattle.srecord.specs.declared.Refusal.the-variants.{Accepted, Ragged, Size, Line, Check, Outside, Twice, Number, Unclosed, Room}
+
+-- The one of them with this number.
+among : List Refusal → ℕ → Refusal
+among [] number = Accepted
+among (why ∷ rest) number = cond (eqb number (refusalNumber why)) why (among rest number)
+
+refusalOf : ℕ → Refusal
+refusalOf = among (Ragged ∷ Size ∷ Line ∷ Check ∷ Outside ∷ Twice ∷ Number ∷ Unclosed ∷ Room ∷ [])
+
+told : (why : Refusal) → refusalOf (refusalNumber why) ≡ why
+unfolding refusalOf among
+told Accepted = refl
+told Ragged = refl
+told Size = refl
+told Line = refl
+told Check = refl
+told Outside = refl
+told Twice = refl
+told Number = refl
+told Unclosed = refl
+told Room = refl
+
+pub same-refusal : (a b : Refusal) → refusalNumber a ≡ refusalNumber b → a ≡ b
+same-refusal a b e = sym (told a) ∙ ap refusalOf e ∙ told b
+
+pub size-left : (length : ℕ) {k : ℕ} → k ≡ refusedLength length → (k ≡ 0 → ⊥) → (k ≡ 1 → ⊥) → 2 ≡ refusedLength length
+size-left length e some other =
+    go (not (eqb (length % 4) 0)) (ltb length 1024 || ltb 16777216 length) (λ none. some (e ∙ none)) (λ one. other (e ∙ one))
+  where
+    go :
+        (ragged missized : Bool) → (first (test 1 ragged ∷ test 2 missized ∷ []) ≡ 0 → ⊥) →
+        (first (test 1 ragged ∷ test 2 missized ∷ []) ≡ 1 → ⊥) → 2 ≡ first (test 1 ragged ∷ test 2 missized ∷ [])
+    go true missized some other = absurd (other refl)
+    go false true some other = refl
+    go false false some other = absurd (some refl)
