@@ -60,7 +60,7 @@ in-parts b start x bytes at n check two five many =
     let lq : length q ≡ 12 + 2 * n = length-append p (pairs bytes) ∙ rw (lp, pairs-length bytes, many) in
     let lr : length r ≡ 14 + 2 * n = length-append q (pairs (check ∷ [])) ∙ rw (lq, pairs-length (check ∷ [])) (omega arith) in
     let same : r ≡ start ++ pairs (x ++ bytes ++ (check ∷ [])) =
-        rw (pairs-append (x ++ bytes) (check ∷ []), pairs-append x bytes) (simp append-assoc) in
+    rw (pairs-append (x ++ bytes) (check ∷ []), pairs-append x bytes) (simp append-assoc) in
     rw (behind b start (pairs x) at (ap (λ (k : ℕ). at + k) (sym two)), behind b p (pairs bytes) at (ap (λ (k : ℕ). at + k) (sym lp)), behind b q (pairs (check ∷ [])) at {j = at + 12 + 2 * n} (omega (arith, lq)))
     (behind b r lineFeed at (omega (arith, lr))
     ∙ ap (λ (text : List ℕ). sets b at (text ++ lineFeed)) same)
@@ -133,10 +133,9 @@ line-done memory b at place {k} inside e done =
     let some : 0 < m = omega arith in
     let n : at + k - at ≡ min 16 (length l) = rw (length-drop at memory) (omega (arith, e)) in
     let bytes : take (at + k - at) l ≡ take 16 l = rw n (piece l) in
-    let fewer : length memory - (at + 16) ≡ m - 16 = omega arith in
-    (
+    let fewer : length memory - (at + 16) ≡ m - 16 = omega arith in (
       rw (done .ends, line-length (ascii "S3") at (take (at + k - at) l), piece-length memory at e, fewer)
-      (add-assoc place (2 + (2 * k + 13)) (linesLength (m - 16)) ∙ ap (λ (x : ℕ). place + x) (piece-left m k some e)),
+          (add-assoc place (2 + (2 * k + 13)) (linesLength (m - 16)) ∙ ap (λ (x : ℕ). place + x) (piece-left m k some e)),
       rw (done .places, done .ends, bytes, next-line memory at inside) (both b (lineOf (ascii "S3") at (take 16 l)) (linesFrom memory (at + 16)) place),
     )
 
@@ -146,7 +145,7 @@ lines-length zero address memory e = omega arith
 lines-length (suc n) address memory e =
     let line = lineOf (ascii "S3") address (take 16 memory) in
     let whole : length (take 16 memory) + length (drop 16 memory) ≡ length memory =
-        sym (length-append (take 16 memory) (drop 16 memory)) ∙ ap length (take-append-drop 16 memory) in
+    sym (length-append (take 16 memory) (drop 16 memory)) ∙ ap length (take-append-drop 16 memory) in
     let fewer : n ≡ (length (drop 16 memory) + 15) / 16 = omega (arith, length-drop 16 memory) in
     length-append line (dataLines n (address + 16) (drop 16 memory))
     ∙ rw (line-length (ascii "S3") address (take 16 memory), lines-length n (address + 16) (drop 16 memory) fewer) (omega (arith, whole))

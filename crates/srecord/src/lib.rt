@@ -9,9 +9,7 @@ mod sweep;
 mod twice;
 
 pub use exporting::export;
-
 ghost use mathlib.Core.Path.{_≡_};
-ghost use Rattle.srecord.specs.Export.{Exports};
 ghost use Rattle.srecord.specs.Load as Load;
 ghost use Rattle.srecord.specs.Load.{Loads, refusalNumber};
 

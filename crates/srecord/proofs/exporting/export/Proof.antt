@@ -66,12 +66,11 @@ line-requires c κs =
     let s : tie.Start = search in
     let m = s .args .memory .now in
     let e : tie.Else3 = search in
-    let d : tie.After-data-lines = search in
-    (
+    let d : tie.After-data-lines = search in (
       refl,
       lit≤ tt,
       rw (d .data-lines .ensures .places, length-sets, d .data-lines .ensures .ends, lines-length ((length m + 15) / 16) 0 m refl, zero-add (linesLength (length m)))
-      (e .if3 .left),
+          (e .if3 .left),
     )
 
 returns-4 : tie.Need-returns-4
