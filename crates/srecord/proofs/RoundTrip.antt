@@ -1,6 +1,6 @@
 -- What `export` writes, `load` takes back: into every memory of the same length, to the same bytes.
 -- Assumes nothing.
-use mathlib.Core.Path.{_≡_, refl, sym, ap, _∙_}
+use mathlib.Core.Path.{_≡_, refl, sym, ap, _∙_, subst}
 use mathlib.Core.Bool.{Bool, true, false, _&&_, _||_, cond, not}
 use mathlib.Core.List.{List, [], _∷_, _++_, append-assoc, append-nil}
 use mathlib.Core.Option.{Option, some}
@@ -13,6 +13,7 @@ use lib.ListN.{drop, length, length-append, length-drop, length-take, take, take
 use lib.Seq.{drop-append-add, sets, sets-eq, take-append-seam}
 use Rattle.memory.proofs.Acceptance.{accepted-size}
 use Rattle.memory.proofs.Bytes.{Bytes}
+use Rattle.memory.specs.Access.{valueAt}
 use Rattle.memory.specs.Lengths.{first, refusedLength}
 use Rattle.text.specs.Text.{ascii}
 use Rattle.srecord.specs.Export.{dataLines, exported, lineOf}
@@ -54,8 +55,8 @@ passes :
     (size : ℕ) (earlier : List Record) (r : Record) → closed earlier ≡ false → sum (r .bytes) % 256 ≡ 0xff → endOf r ≤ size →
     writtenTwice r earlier ≡ false → isCount (kindOf r) ≡ false → first (recordTests size earlier r) ≡ 0
 unfolding recordTests
-passes size earlier r open check inside once other =
-    rw (open, eq-eqb _ _ check, le-ltb _ _ inside, and-false, once, other)
+passes size earlier r unclosed check inside once other =
+    rw (unclosed, eq-eqb _ _ check, le-ltb _ _ inside, and-false, once, other)
 
 goes-on :
     (size n : ℕ) (earlier : List Record) (r : Record) (rest : List (Option Record)) → first (recordTests size earlier r) ≡ 0 →
@@ -70,16 +71,104 @@ abbrev ends : Record
 ends = recordWith closingOpening 0 []
 
 closes : (size n : ℕ) (earlier : List Record) → closed earlier ≡ false → judged size n earlier (records ending) ≡ verdict 0 0
-unfolding judged closed
-closes size n earlier open =
+unfolding judged closed valueAt
+closes size n earlier unclosed =
     ap (judged size n earlier) closing-line
-    ∙ goes-on size n earlier ends [] (passes size earlier ends open refl ? (nothing-once ends earlier ?) refl)
+    ∙ goes-on size n earlier ends [] (passes size earlier ends unclosed refl (omega arith) (nothing-once ends earlier (omega arith)) refl)
+
+-- A data line, read back.
+module _ (a : ℕ) (m : List ℕ) where
+  abbrev piece : List ℕ
+  piece = take 16 m
+
+  abbrev left : List ℕ
+  left = drop 16 m
+
+  abbrev line : Record
+  line = recordWith dataOpening a piece
+
+  piece-short : length piece ≤ 16
+  piece-short = rw (length-take 16 m) (omega arith)
+
+  first-line :
+      (k : ℕ) → Bytes m → records (lineOf (ascii "S3") a piece ++ dataLines k (a + 16) left ++ ending) ≡ some line ∷ records (dataLines k (a + 16) left ++ ending)
+  first-line k bytes =
+      ap records (append-assoc (lineOf (ascii "S3") a piece) (dataLines k (a + 16) left) ending)
+      ∙ data-line a piece (dataLines k (a + 16) left ++ ending) (bytes-take 16 m bytes) piece-short
+
+  line-ends : a < 2 ^ 32 → endOf line ≡ a + length piece
+  line-ends h = rw (address-back a piece h, data-kept a piece)
+
+  fewer : {k : ℕ} → suc k ≡ (length m + 15) / 16 → k ≡ (length left + 15) / 16
+  fewer e = rw (length-drop 16 m) (omega arith)
 
 -- The lines of a memory pass, from an address on.
 lines-pass :
     (size n k a : ℕ) (earlier : List Record) (m : List ℕ) → size < 2 ^ 32 → Bytes m → (0 < length m → a + length m ≤ size) →
     closed earlier ≡ false → Below a earlier → k ≡ (length m + 15) / 16 →
     judged size n earlier (records (dataLines k a m ++ ending)) ≡ verdict 0 0
-unfolding dataLines
-lines-pass size n zero a earlier m long bytes inside open below e = closes size n earlier open
-lines-pass size n (suc k) a earlier m long bytes inside open below e = ?
+unfolding dataLines closed
+lines-pass size n zero a earlier m long bytes inside unclosed below e = closes size n earlier unclosed
+lines-pass size n (suc k) a earlier m long bytes inside unclosed below e =
+    let r = line a m in
+    let fits : a + length m ≤ size = inside (omega arith) in
+    let small : a < 2 ^ 32 = omega arith in
+    let held : length (piece a m) ≡ min 16 (length m) = length-take 16 m in
+    let end : endOf r ≤ a + 16 = rw (line-ends a m small) (omega arith) in
+    let within : endOf r ≤ size = rw (line-ends a m small) (omega arith) in
+    let apart : Below (address r) earlier = subst (λ (x : ℕ). Below x earlier) (sym (address-back a (piece a m) small)) below in
+    ap (judged size n earlier) (first-line a m k bytes)
+    ∙ goes-on size n earlier r _ (passes size earlier r unclosed (sum-back a (piece a m)) within (behind-once r earlier apart) refl)
+    ∙ lines-pass size (n + 1) k (a + 16) (r ∷ earlier) (left a m) long (bytes-drop 16 m bytes) (λ (some : 0 < length (left a m)). omega (arith, length-drop 16 m, fits)) unclosed (end, below-more a (a + 16) earlier (omega arith) below) (fewer a m e)
+
+overwritten : (p q d : List ℕ) {a : ℕ} → length p ≡ a → length d ≤ length q → sets (p ++ q) a d ≡ p ++ d ++ drop (length d) q
+overwritten p q d {a} e h =
+    let room : a + length d ≤ length (p ++ q) = rw (length-append p q, e) (omega arith) in
+    sets-eq d (p ++ q) a room ∙ rw (sym e, take-append-seam p q, drop-append-add p q (length d))
+
+none-left : (q m : List ℕ) → length q ≡ length m → length m ≡ 0 → q ≡ m
+none-left [] [] e h = refl
+none-left [] (x ∷ m) e h = absurd (omega arith)
+none-left (x ∷ q) m e h = absurd (omega arith)
+
+-- The data of the lines, one behind the other, take the place of what stood there.
+lines-placed :
+    (size k a : ℕ) (m p q : List ℕ) → size < 2 ^ 32 → Bytes m → (0 < length m → (length p ≡ a) × (a + length m ≤ size)) →
+    length q ≡ length m → k ≡ (length m + 15) / 16 → placed (p ++ q) (records (dataLines k a m ++ ending)) ≡ p ++ m
+unfolding dataLines placed
+lines-placed size zero a m p q long bytes inside e k =
+    ap (placed (p ++ q)) closing-line ∙ ap (λ (x : List ℕ). p ++ x) (none-left q m e (omega arith))
+lines-placed size (suc k) a m p q long bytes inside e n =
+    let d = piece a m in
+    let rest = left a m in
+    let now = inside (omega arith) in
+    let small : a < 2 ^ 32 = omega (arith, now .1) in
+    let held : length d ≡ min 16 (length m) = length-take 16 m in
+    let over : sets (p ++ q) (address (line a m)) (dataOf (line a m)) ≡ p ++ d ++ drop (length d) q =
+        rw (address-back a d small, data-kept a d) (overwritten p q d (now .0) (omega arith)) in
+    ap (placed (p ++ q)) (first-line a m k bytes)
+    ∙ ap (λ (l : List ℕ). placed l (records (dataLines k (a + 16) rest ++ ending))) over
+    ∙ lines-placed size k (a + 16) rest (p ++ d) (drop (length d) q) long (bytes-drop 16 m bytes)
+    (λ (some : 0 < length rest). (rw (length-append p d) (omega (arith, now .0, held, length-drop 16 m)), omega (arith, now .1, length-drop 16 m)))
+    (rw (length-drop (length d) q, length-drop 16 m) (omega (arith, held, e))) (fewer a m n)
+    ∙ append-assoc p d rest ∙ ap (λ (x : List ℕ). p ++ x) (take-append-drop 16 m)
+
+pub round-trip :
+    (m other : List ℕ) → Bytes m → refusedLength (length m) ≡ 0 → length other ≡ length m →
+    (verdictOn (exported m) (length other) ≡ verdict 0 0) × (memoryAfter (exported m) other ≡ m)
+unfolding exported closed
+round-trip m other bytes accepted same = (passed, ap (λ (v : Verdict). cond (eqb (v .number) 0) (placed other (records (exported m))) other) passed ∙ taken)
+  where
+    size : length other < 2 ^ 32
+    size = omega (arith, accepted-size (length m) accepted)
+
+    fits : 0 + length m ≤ length other
+    fits = omega arith
+
+    passed : verdictOn (exported m) (length other) ≡ verdict 0 0
+    passed =
+        ap (λ (k : ℕ). cond (eqb k 0) (judged (length other) 1 [] (records (exported m))) (verdict k 0)) (ap refusedLength same ∙ accepted)
+        ∙ lines-pass (length other) 1 ((length m + 15) / 16) 0 [] m size bytes (λ some. fits) (refl) tt refl
+
+    taken : placed other (records (exported m)) ≡ m
+    taken = lines-placed (length other) ((length m + 15) / 16) 0 m [] other size bytes (λ some. (refl, fits)) same refl
