@@ -3,22 +3,21 @@
 use mathlib.Core.Path.{_≡_, refl, sym, ap, _∙_}
 use mathlib.Core.Bool.{Bool, true, false, _||_, cond, not}
 use mathlib.Core.List.{List, [], _∷_, _++_}
-use Prim.Native.Nat.{ℕ, _+_, _%_, _<_, _≤_}
+use Prim.Native.Nat.{ℕ, _+_, _*_, _/_, _%_, _<_, _≤_}
 use native.Mathlib.Nat.{add-assoc, zero-add}
-use native.Mathlib.Omega.{arith}
 use borrow.Author.Tests.{eq-eqb, le-ltb, lt-ltb, ne-eqb}
 use lib.Dec.{eqb, ltb}
 use lib.ListN.{drop, length, length-append}
 use lib.Seq.{sets, sets-eq}
-use Rattle.memory.specs.Lengths.{Test, first, lengthTests, refusedLength, test}
-use Rattle.memory.proofs.Acceptance.{same-before}
-use Rattle.text.specs.Text.{ascii}
-use Rattle.srecord.specs.Export.{Exports, Places, dataLines, exported, lineOf, refusedExport}
+use Rattle.memory.specs.Lengths.{first, lengthTests, refusedLength, test}
+use Rattle.memory.proofs.Acceptance.{none-before, same-before}
+use Rattle.srecord.specs.Export.{Exports, Places, exported, refusedExport}
 use Rattle.srecord.specs.Load.{refusalNumber}
 use Rattle.srecord.specs.declared.Exported.{Exported}
 use Rattle.srecord.specs.declared.Refusal.{Refusal}
 use Rattle.srecord.specs.declared.Refusal.the-variants.{Accepted}
 use Rattle.srecord.proofs.Pairs.{behind}
+use Rattle.srecord.proofs.WrittenLines.{exported-length}
 use Rattle.srecord.proofs.Refusals.{same-refusal}
 
 -- One text placed, and another behind it.
@@ -37,6 +36,9 @@ module _ (memory buffer : List ℕ) where
   pub length-refuses : {k : ℕ} → k ≡ refusedLength (length memory) → (k ≡ 0 → ⊥) → k ≡ refusedExport memory buffer
   length-refuses e some = e ∙ sym (same-before (lengthTests (length memory)) (test 16 short ∷ []) (λ none. some (e ∙ none)))
 
+  pub length-accepted : refusedExport memory buffer ≡ 0 → refusedLength (length memory) ≡ 0
+  length-accepted e = none-before (lengthTests (length memory)) (test 16 short ∷ []) e
+
   room-decides : refusedLength (length memory) ≡ 0 → refusedExport memory buffer ≡ cond short 16 0
   room-decides e = go (not (eqb (length memory % 4) 0)) (ltb (length memory) 1024 || ltb 16777216 (length memory)) e
     where
@@ -46,6 +48,12 @@ module _ (memory buffer : List ℕ) where
       go true missized e = cc
       go false true e = cc
       go false false e = refl
+
+  -- The room that suffices, exactly.
+  pub room-exactly :
+      refusedLength (length memory) ≡ 0 →
+      refusedExport memory buffer ≡ cond (ltb (length buffer) (2 * length memory + 15 * ((length memory + 15) / 16) + 15)) 16 0
+  room-exactly e = room-decides e ∙ ap (λ (n : ℕ). cond (ltb (length buffer) n) 16 0) (exported-length memory)
 
   pub room-refuses : refusedLength (length memory) ≡ 0 → length buffer < length (exported memory) → 16 ≡ refusedExport memory buffer
   room-refuses e less = sym (room-decides e ∙ ap (λ (t : Bool). cond t 16 0) (lt-ltb _ _ less))
@@ -57,8 +65,13 @@ module _ (memory buffer : List ℕ) where
       (why : Refusal) → refusalNumber why ≡ refusedExport memory buffer → (refusalNumber why ≡ 0 → ⊥) →
       Exports memory buffer (record { refusal = why; length = 0 }) buffer
   refused-exports why e some =
+      let text = exported memory in
       let no : eqb (refusedExport memory buffer) 0 ≡ false = ne-eqb _ _ (λ none. some (e ∙ none)) in
-      record { refuses = e; counts = sym (ap (λ (t : Bool). cond t (length (exported memory)) 0) no); leaves = sym (ap (λ (t : Bool). cond t (exported memory ++ drop (length (exported memory)) buffer) buffer) no) }
+      record {
+        refuses = e;
+        counts = sym (ap (λ (t : Bool). cond t (length text) 0) no);
+        leaves = sym (ap (λ (t : Bool). cond t (text ++ drop (length text) buffer) buffer) no);
+      }
 
   pub accepted-exports :
       {after : List ℕ} {end : ℕ} → 0 ≡ refusedExport memory buffer → length (exported memory) ≤ length buffer →

@@ -6,10 +6,10 @@ use Prim.Native.Nat.{ℕ, suc, _+_, _*_, _/_, _%_, _<_, _≤_}
 use native.Mathlib.Nat.{add-assoc, add-suc, add-zero, mod-eq-of-lt, suc-add, zero-add}
 use native.Mathlib.Numerals.{add-one}
 use native.Mathlib.Omega.{arith}
-use borrow.Author.Tests.{le-ltb, lt-ltb, ltb-false, ltb-true}
+use borrow.Author.Tests.{ltb-false, ltb-true}
 use mathlib.Core.Bool.{Bool, true, false}
 use lib.Dec.{ltb}
-use lib.ListN.{drop, drop-of-length-le, getD, length, length-append, set}
+use lib.ListN.{drop, drop-of-length-le, getD, length, set}
 use lib.Seq.{drop-cons, sets}
 use Rattle.text.specs.Text.{digit, hexIn}
 use Rattle.text.specs.declared.digits.Case.the-variants.{Upper}

@@ -1,31 +1,30 @@
 -- A line that `export` writes is read back: it is cut off at its line feed, and its record has the bytes that were written.
 -- Assumes nothing.
 use mathlib.Core.Path.{_≡_, refl, sym, ap, _∙_}
-use mathlib.Core.Bool.{Bool, true, false, _&&_, cond}
+use mathlib.Core.Bool.{Bool, true, false, cond}
 use mathlib.Core.List.{List, [], _∷_, _++_, append-assoc, append-nil, map}
-use mathlib.Core.Option.{Option, none, some}
-use Prim.Native.Nat.{ℕ, zero, suc, _+_, _-_, _*_, _/_, _%_, _^_, _<_, _≤_}
+use mathlib.Core.Option.{some}
+use Prim.Native.Nat.{ℕ, zero, suc, _+_, _-_, _/_, _%_, _^_, _<_, _≤_}
 use native.Mathlib.Nat.{mod-eq-of-lt}
 use native.Mathlib.Omega.{arith}
-use borrow.Author.Tests.{eq-eqb, le-leb, ltb-false, ltb-true, ne-eqb}
-use lib.Dec.{eqb, leb, lit<, lit≤, ltb}
+use borrow.Author.Tests.{eq-eqb, le-leb, ne-eqb}
+use lib.Dec.{eqb, lit<, lit≤, ltb}
 use lib.ListN.{drop, getD, length, length-append, take}
 use lib.Seq.{append-snoc, getD-append-seam, getD-drop, take-append-seam}
 use Rattle.memory.proofs.Bytes.{Bytes}
 use Rattle.memory.specs.Access.{valueAt}
 use Rattle.text.proofs.Values.{read-back}
-use Rattle.text.specs.Reading.{readOn, value}
+use Rattle.text.specs.Reading.{value}
 use Rattle.text.specs.Text.{ascii, digit, hexIn, lineFeed}
 use Rattle.text.specs.declared.digits.Case.the-variants.{Upper}
 use Rattle.text.specs.declared.reading.Letters.the-variants.{EitherCase}
 use Rattle.text.specs.declared.reading.Read.the-variants.{Number}
-use Rattle.srecord.specs.declared.openings.Kind.{Kind}
 use Rattle.srecord.specs.declared.openings.Kind.the-variants.{Data, Closing}
 use Rattle.srecord.specs.Export.{bytesIn, checkByte, counted, lineOf, pairs}
-use Rattle.srecord.specs.Lines.{content, cut, endsIn}
-use Rattle.srecord.specs.Load.{endOf, kindOf, records, sum}
+use Rattle.srecord.specs.Lines.{content, cut}
+use Rattle.srecord.specs.Load.{records, sum}
 use Rattle.srecord.specs.Records.{Opening, Record, address, among, bytesOf, dataOf, openingOf, openings, recordOf, withBytes}
-use Rattle.srecord.proofs.Pairs.{pairs-append, sum-append}
+use Rattle.srecord.proofs.Pairs.{sum-append}
 
 -- A text in which a byte does not stand.
 abbrev Without : ℕ → List ℕ → Type 0
@@ -76,7 +75,8 @@ pub bytes-back : (bytes : List ℕ) → Bytes bytes → bytesOf (pairs bytes) �
 unfolding bytesOf pairs hexIn
 bytes-back [] small = refl
 bytes-back (byte ∷ bytes) small =
-    let this : value EitherCase (hexIn Upper 2 byte) ≡ Number byte = read-back EitherCase Upper refl 2 byte ∙ ap Number (mod-eq-of-lt (small 0)) in
+    let this : value EitherCase (hexIn Upper 2 byte) ≡ Number byte =
+    read-back EitherCase Upper refl 2 byte ∙ ap Number (mod-eq-of-lt (small 0)) in
     rw (this, bytes-back bytes (λ i. small (suc i)))
 
 -- Count, address, data and check byte of a line.
@@ -141,7 +141,8 @@ long a bytes = let all = counted a bytes in length-append all (checkByte all ∷
 
 -- The records of the two kinds of lines.
 data-back :
-    (a : ℕ) (bytes : List ℕ) → Bytes bytes → length bytes ≤ 16 → recordOf (lineOf (ascii "S3") a bytes) ≡ some (recordWith dataOpening a bytes)
+    (a : ℕ) (bytes : List ℕ) → Bytes bytes → length bytes ≤ 16 →
+    recordOf (lineOf (ascii "S3") a bytes) ≡ some (recordWith dataOpening a bytes)
 unfolding lineOf
 data-back a bytes small short =
     let least : 5 ≤ 4 + length bytes + 1 = omega arith in

@@ -1,4 +1,4 @@
--- Laws of refusals: the paper's number tells which one it is, and a length that is refused for another reason than 1 is refused for reason 2.
+-- Laws of refusals: the paper's number tells which it is, and a length refused for another reason than 1 is refused for reason 2.
 -- Assumes nothing.
 use mathlib.Core.Path.{_≡_, refl, sym, ap, _∙_}
 use mathlib.Core.Bool.{Bool, true, false, _||_, cond, not}

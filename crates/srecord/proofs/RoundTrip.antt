@@ -1,14 +1,14 @@
 -- What `export` writes, `load` takes back: into every memory of the same length, to the same bytes.
 -- Assumes nothing.
 use mathlib.Core.Path.{_≡_, refl, sym, ap, _∙_, subst}
-use mathlib.Core.Bool.{Bool, true, false, _&&_, _||_, cond, not}
-use mathlib.Core.List.{List, [], _∷_, _++_, append-assoc, append-nil}
+use mathlib.Core.Bool.{Bool, true, false, _&&_, cond}
+use mathlib.Core.List.{List, [], _∷_, _++_, append-assoc}
 use mathlib.Core.Option.{Option, some}
-use Prim.Native.Nat.{ℕ, zero, suc, _+_, _-_, _*_, _/_, _%_, _^_, _<_, _≤_, max, min}
+use Prim.Native.Nat.{ℕ, zero, suc, _+_, _-_, _/_, _%_, _^_, _<_, _≤_, max, min}
 use native.Mathlib.Nat.{le-trans}
 use native.Mathlib.Omega.{arith}
 use borrow.Author.Tests.{eq-eqb, le-ltb}
-use lib.Dec.{eqb, lit≤, ltb}
+use lib.Dec.{eqb, ltb}
 use lib.ListN.{drop, length, length-append, length-drop, length-take, take, take-append-drop}
 use lib.Seq.{drop-append-add, sets, sets-eq, take-append-seam}
 use Rattle.memory.proofs.Acceptance.{accepted-size}
@@ -16,10 +16,17 @@ use Rattle.memory.proofs.Bytes.{Bytes}
 use Rattle.memory.specs.Access.{valueAt}
 use Rattle.memory.specs.Lengths.{first, refusedLength}
 use Rattle.text.specs.Text.{ascii}
-use Rattle.srecord.specs.Export.{dataLines, exported, lineOf}
-use Rattle.srecord.specs.Load.{Verdict, closed, endOf, isCount, judged, kindOf, memoryAfter, placed, recordTests, records, share, sum, verdict, verdictOn, writtenTwice}
+use Rattle.srecord.specs.declared.Exported.{Exported}
+use Rattle.srecord.specs.declared.Loaded.{Loaded}
+use Rattle.srecord.specs.declared.Refusal.the-variants.{Accepted}
+use Rattle.srecord.specs.Export.{Exports, dataLines, exported, lineOf, refusedExport}
+use Rattle.srecord.specs.Load.{Loads, Verdict, closed, endOf, isCount, judged, kindOf, memoryAfter, placed, recordTests, records}
+use Rattle.srecord.specs.Load.{refusalNumber, sum, verdict, verdictOn, writtenTwice}
 use Rattle.srecord.specs.Records.{Record, address, dataOf}
-use Rattle.srecord.proofs.ReadBack.{address-back, bytes-drop, bytes-take, closing-line, closingOpening, data-kept, data-line, dataOpening, recordWith, sum-back}
+use Rattle.srecord.proofs.Exports.{length-accepted}
+use Rattle.srecord.proofs.ReadBack.{address-back, bytes-drop, bytes-take, closing-line, closingOpening}
+use Rattle.srecord.proofs.ReadBack.{data-kept, data-line, dataOpening, recordWith, sum-back}
+use Rattle.srecord.proofs.Refusals.{same-refusal}
 
 -- The records end at or before an address.
 abbrev Below : ℕ → List Record → Type 0
@@ -91,7 +98,9 @@ module _ (a : ℕ) (m : List ℕ) where
   piece-short = rw (length-take 16 m) (omega arith)
 
   first-line :
-      (k : ℕ) → Bytes m → records (lineOf (ascii "S3") a piece ++ dataLines k (a + 16) left ++ ending) ≡ some line ∷ records (dataLines k (a + 16) left ++ ending)
+      (k : ℕ) → Bytes m →
+      records (lineOf (ascii "S3") a piece ++ dataLines k (a + 16) left ++ ending) ≡
+      some line ∷ records (dataLines k (a + 16) left ++ ending)
   first-line k bytes =
       ap records (append-assoc (lineOf (ascii "S3") a piece) (dataLines k (a + 16) left) ending)
       ∙ data-line a piece (dataLines k (a + 16) left ++ ending) (bytes-take 16 m bytes) piece-short
@@ -119,7 +128,9 @@ lines-pass size n (suc k) a earlier m long bytes inside unclosed below e =
     let apart : Below (address r) earlier = subst (λ (x : ℕ). Below x earlier) (sym (address-back a (piece a m) small)) below in
     ap (judged size n earlier) (first-line a m k bytes)
     ∙ goes-on size n earlier r _ (passes size earlier r unclosed (sum-back a (piece a m)) within (behind-once r earlier apart) refl)
-    ∙ lines-pass size (n + 1) k (a + 16) (r ∷ earlier) (left a m) long (bytes-drop 16 m bytes) (λ (some : 0 < length (left a m)). omega (arith, length-drop 16 m, fits)) unclosed (end, below-more a (a + 16) earlier (omega arith) below) (fewer a m e)
+    ∙ lines-pass size (n + 1) k (a + 16) (r ∷ earlier) (left a m) long (bytes-drop 16 m bytes)
+    (λ (some : 0 < length (left a m)). omega (arith, length-drop 16 m, fits))
+    unclosed (end, below-more a (a + 16) earlier (omega arith) below) (fewer a m e)
 
 overwritten : (p q d : List ℕ) {a : ℕ} → length p ≡ a → length d ≤ length q → sets (p ++ q) a d ≡ p ++ d ++ drop (length d) q
 overwritten p q d {a} e h =
@@ -145,11 +156,14 @@ lines-placed size (suc k) a m p q long bytes inside e n =
     let small : a < 2 ^ 32 = omega (arith, now .1) in
     let held : length d ≡ min 16 (length m) = length-take 16 m in
     let over : sets (p ++ q) (address (line a m)) (dataOf (line a m)) ≡ p ++ d ++ drop (length d) q =
-        rw (address-back a d small, data-kept a d) (overwritten p q d (now .0) (omega arith)) in
+    rw (address-back a d small, data-kept a d) (overwritten p q d (now .0) (omega arith)) in
     ap (placed (p ++ q)) (first-line a m k bytes)
     ∙ ap (λ (l : List ℕ). placed l (records (dataLines k (a + 16) rest ++ ending))) over
     ∙ lines-placed size k (a + 16) rest (p ++ d) (drop (length d) q) long (bytes-drop 16 m bytes)
-    (λ (some : 0 < length rest). (rw (length-append p d) (omega (arith, now .0, held, length-drop 16 m)), omega (arith, now .1, length-drop 16 m)))
+    (λ (some : 0 < length rest). (
+      rw (length-append p d) (omega (arith, now .0, held, length-drop 16 m)),
+      omega (arith, now .1, length-drop 16 m),
+    ))
     (rw (length-drop (length d) q, length-drop 16 m) (omega (arith, held, e))) (fewer a m n)
     ∙ append-assoc p d rest ∙ ap (λ (x : List ℕ). p ++ x) (take-append-drop 16 m)
 
@@ -157,8 +171,12 @@ pub round-trip :
     (m other : List ℕ) → Bytes m → refusedLength (length m) ≡ 0 → length other ≡ length m →
     (verdictOn (exported m) (length other) ≡ verdict 0 0) × (memoryAfter (exported m) other ≡ m)
 unfolding exported closed
-round-trip m other bytes accepted same = (passed, ap (λ (v : Verdict). cond (eqb (v .number) 0) (placed other (records (exported m))) other) passed ∙ taken)
+round-trip m other bytes accepted same =
+    (passed, ap (λ (v : Verdict). cond (eqb (v .number) 0) (placed other (records (exported m))) other) passed ∙ taken)
   where
+    n : ℕ
+    n = (length m + 15) / 16
+
     size : length other < 2 ^ 32
     size = omega (arith, accepted-size (length m) accepted)
 
@@ -168,7 +186,27 @@ round-trip m other bytes accepted same = (passed, ap (λ (v : Verdict). cond (eq
     passed : verdictOn (exported m) (length other) ≡ verdict 0 0
     passed =
         ap (λ (k : ℕ). cond (eqb k 0) (judged (length other) 1 [] (records (exported m))) (verdict k 0)) (ap refusedLength same ∙ accepted)
-        ∙ lines-pass (length other) 1 ((length m + 15) / 16) 0 [] m size bytes (λ some. fits) (refl) tt refl
+        ∙ lines-pass (length other) 1 n 0 [] m size bytes (λ some. fits) refl tt refl
 
     taken : placed other (records (exported m)) ≡ m
-    taken = lines-placed (length other) ((length m + 15) / 16) 0 m [] other size bytes (λ some. (refl, fits)) same refl
+    taken = lines-placed (length other) n 0 m [] other size bytes (λ some. (refl, fits)) same refl
+
+-- In the words of the two promises: what an export has written, a load takes, and leaves the exported memory.
+pub loads-back :
+    (m buffer other : List ℕ) (e : Exported) (l : Loaded) (written after : List ℕ) → Bytes m → length other ≡ length m →
+    Exports m buffer e written → e .refusal ≡ Accepted → Loads (take (e .length) written) other l after →
+    (l ≡ record { refusal = Accepted; line = 0 }) × (after ≡ m)
+loads-back m buffer other e l written after bytes same exports accepted loads =
+    let text = exported m in
+    let none : refusedExport m buffer ≡ 0 = sym (exports .refuses) ∙ ap refusalNumber accepted in
+    let yes : eqb (refusedExport m buffer) 0 ≡ true = eq-eqb _ _ none in
+    let long : e .length ≡ length text = exports .counts ∙ ap (λ (t : Bool). cond t (length text) 0) yes in
+    let all : written ≡ text ++ drop (length text) buffer =
+    exports .leaves ∙ ap (λ (t : Bool). cond t (text ++ drop (length text) buffer) buffer) yes in
+    let same-text : take (e .length) written ≡ text = rw (long, all) (take-append-seam text (drop (length text) buffer)) in
+    let back : Loads text other l after = subst (λ (t : List ℕ). Loads t other l after) same-text loads in
+    let trip = round-trip m other bytes (length-accepted m buffer none) same in
+    let told = back .answers ∙ trip .0 in
+    let why : l .refusal ≡ Accepted = same-refusal (l .refusal) Accepted (ap (λ (v : Verdict). v .number) told) in
+    let where-told : l .line ≡ 0 = ap (λ (v : Verdict). v .line) told in
+    (λ i. record { refusal = why i; line = where-told i }, back .leaves ∙ trip .1)

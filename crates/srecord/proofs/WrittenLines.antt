@@ -28,13 +28,14 @@ counted-head address bytes h =
     let c : address / 256 / 256 % 256 ≡ address / 0x1_0000 % 256 = omega arith in
     rw (a, b, c)
 
-pub line-length : (start : List ℕ) (address : ℕ) (bytes : List ℕ) → length (lineOf start address bytes) ≡ length start + (2 * length bytes + 13)
+pub line-length :
+    (start : List ℕ) (address : ℕ) (bytes : List ℕ) → length (lineOf start address bytes) ≡ length start + (2 * length bytes + 13)
 unfolding lineOf
 line-length start address bytes =
     let all = counted address bytes in
-    length-append (start ++ pairs (all ++ (checkByte all ∷ []))) lineFeed
-    ∙ rw (length-append start (pairs (all ++ (checkByte all ∷ []))), pairs-length (all ++ (checkByte all ∷ [])), length-append all (checkByte all ∷ []))
-    (omega arith)
+    let x = all ++ (checkByte all ∷ []) in
+    length-append (start ++ pairs x) lineFeed
+    ∙ rw (length-append start (pairs x), pairs-length x, length-append all (checkByte all ∷ [])) (omega arith)
 
 -- A line's start, byte by byte.
 start-placed :
@@ -48,22 +49,28 @@ check-of : (x y : List ℕ) → 255 - (sum x % 256 + sum y % 256) % 2 ^ 8 ≡ ch
 check-of x y = rw (sum-append x y) (omega arith)
 
 -- A line's five parts, each placed behind the one before it.
-in-parts :
-    (b start x bytes : List ℕ) (at n check : ℕ) → length start ≡ 2 → length x ≡ 5 → length bytes ≡ n →
-    set (sets (sets (sets (sets b at start) (at + 2) (pairs x)) (at + 12) (pairs bytes)) (at + 12 + 2 * n) (pairs (check ∷ []))) (at + 12 + 2 * n + 2) 10 ≡
-    sets b at (start ++ pairs (x ++ bytes ++ (check ∷ [])) ++ lineFeed)
-in-parts b start x bytes at n check two five many =
-    let p = start ++ pairs x in
-    let q = p ++ pairs bytes in
-    let r = q ++ pairs (check ∷ []) in
-    let lp : length p ≡ 12 = length-append start (pairs x) ∙ rw (two, pairs-length x, five) in
-    let lq : length q ≡ 12 + 2 * n = length-append p (pairs bytes) ∙ rw (lp, pairs-length bytes, many) in
-    let lr : length r ≡ 14 + 2 * n = length-append q (pairs (check ∷ [])) ∙ rw (lq, pairs-length (check ∷ [])) (omega arith) in
-    let same : r ≡ start ++ pairs (x ++ bytes ++ (check ∷ [])) =
-    rw (pairs-append (x ++ bytes) (check ∷ []), pairs-append x bytes) (simp append-assoc) in
-    rw (behind b start (pairs x) at (ap (λ (k : ℕ). at + k) (sym two)), behind b p (pairs bytes) at (ap (λ (k : ℕ). at + k) (sym lp)), behind b q (pairs (check ∷ [])) at {j = at + 12 + 2 * n} (omega (arith, lq)))
-    (behind b r lineFeed at (omega (arith, lr))
-    ∙ ap (λ (text : List ℕ). sets b at (text ++ lineFeed)) same)
+module _ (b start x bytes : List ℕ) (at n check : ℕ) (two : length start ≡ 2) (five : length x ≡ 5) (many : length bytes ≡ n) where
+  in-parts :
+      set
+      (sets (sets (sets (sets b at start) (at + 2) (pairs x)) (at + 12) (pairs bytes)) (at + 12 + 2 * n) (pairs (check ∷ [])))
+      (at + 12 + 2 * n + 2)
+      10 ≡
+      sets b at (start ++ pairs (x ++ bytes ++ (check ∷ [])) ++ lineFeed)
+  in-parts =
+      let p = start ++ pairs x in
+      let q = p ++ pairs bytes in
+      let r = q ++ pairs (check ∷ []) in
+      let lp : length p ≡ 12 = length-append start (pairs x) ∙ rw (two, pairs-length x, five) in
+      let lq : length q ≡ 12 + 2 * n = length-append p (pairs bytes) ∙ rw (lp, pairs-length bytes, many) in
+      let lr : length r ≡ 14 + 2 * n = length-append q (pairs (check ∷ [])) ∙ rw (lq, pairs-length (check ∷ [])) (omega arith) in
+      let same : r ≡ start ++ pairs (x ++ bytes ++ (check ∷ [])) =
+      rw (pairs-append (x ++ bytes) (check ∷ []), pairs-append x bytes) (simp append-assoc) in
+      rw (
+        behind b start (pairs x) at (ap (λ (k : ℕ). at + k) (sym two)),
+        behind b p (pairs bytes) at (ap (λ (k : ℕ). at + k) (sym lp)),
+        behind b q (pairs (check ∷ [])) at {j = at + 12 + 2 * n} (omega (arith, lq)),
+      )
+      (behind b r lineFeed at (omega (arith, lr)) ∙ ap (λ (text : List ℕ). sets b at (text ++ lineFeed)) same)
 
 pub line-placed :
     (b : List ℕ) (at : ℕ) (start : List ℕ) (address : ℕ) (bytes : List ℕ) {b1 b2 b3 : List ℕ} {check : ℕ} → length start ≡ 2 →
@@ -136,10 +143,12 @@ line-done memory b at place {k} inside e done =
     let fewer : length memory - (at + 16) ≡ m - 16 = omega arith in (
       rw (done .ends, line-length (ascii "S3") at (take (at + k - at) l), piece-length memory at e, fewer)
           (add-assoc place (2 + (2 * k + 13)) (linesLength (m - 16)) ∙ ap (λ (x : ℕ). place + x) (piece-left m k some e)),
-      rw (done .places, done .ends, bytes, next-line memory at inside) (both b (lineOf (ascii "S3") at (take 16 l)) (linesFrom memory (at + 16)) place),
+      rw (done .places, done .ends, bytes, next-line memory at inside)
+          (both b (lineOf (ascii "S3") at (take 16 l)) (linesFrom memory (at + 16)) place),
     )
 
-pub lines-length : (n address : ℕ) (memory : List ℕ) → n ≡ (length memory + 15) / 16 → length (dataLines n address memory) ≡ 2 * length memory + 15 * n
+pub lines-length :
+    (n address : ℕ) (memory : List ℕ) → n ≡ (length memory + 15) / 16 → length (dataLines n address memory) ≡ 2 * length memory + 15 * n
 unfolding dataLines
 lines-length zero address memory e = omega arith
 lines-length (suc n) address memory e =
@@ -148,7 +157,8 @@ lines-length (suc n) address memory e =
     sym (length-append (take 16 memory) (drop 16 memory)) ∙ ap length (take-append-drop 16 memory) in
     let fewer : n ≡ (length (drop 16 memory) + 15) / 16 = omega (arith, length-drop 16 memory) in
     length-append line (dataLines n (address + 16) (drop 16 memory))
-    ∙ rw (line-length (ascii "S3") address (take 16 memory), lines-length n (address + 16) (drop 16 memory) fewer) (omega (arith, whole))
+    ∙ rw (line-length (ascii "S3") address (take 16 memory), lines-length n (address + 16) (drop 16 memory) fewer)
+    (omega (arith, whole))
 
 -- The length of the text, exactly.
 pub exported-length : (memory : List ℕ) → length (exported memory) ≡ 2 * length memory + 15 * ((length memory + 15) / 16) + 15

@@ -40,9 +40,12 @@ unfoldable pub dataLines : ℕ → ℕ → List ℕ → List ℕ
 dataLines zero address memory = []
 dataLines (suc n) address memory = lineOf (ascii "S3") address (take 16 memory) ++ dataLines n (address + 16) (drop 16 memory)
 
+abbrev pub memoryLines : List ℕ → List ℕ
+memoryLines memory = dataLines ((length memory + 15) / 16) 0 memory
+
 -- "and a closing S7 with address 0"
 unfoldable pub exported : List ℕ → List ℕ
-exported memory = dataLines ((length memory + 15) / 16) 0 memory ++ lineOf (ascii "S7") 0 []
+exported memory = memoryLines memory ++ lineOf (ascii "S7") 0 []
 
 -- "export, 1, 2, then 16 buffer too short"
 abbrev pub refusedExport : List ℕ → List ℕ → ℕ

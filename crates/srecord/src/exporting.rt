@@ -4,16 +4,16 @@ use crate::Refusal;
 use crate::openings;
 use std::num::wrapping_add_u8;
 ghost use mathlib.Core.Path.{_≡_};
-ghost use Prim.Native.Nat.{_+_, _*_, _/_, _%_, _<_, _≤_, min};
+ghost use Prim.Native.Nat.{_+_, _*_, _%_, _<_, _≤_, min};
 ghost use lib.ListN.{length};
 ghost use lib.Seq.{sets};
 ghost use Rattle.text.specs.Text as Text;
 ghost use Rattle.text.specs.declared.digits.Case.the-variants.{Upper};
 ghost use Rattle.srecord.specs.Export as Export;
+ghost use Rattle.srecord.specs.Export.{Exports, Places, lineOf, memoryLines};
 ghost use Rattle.srecord.specs.Load as Load;
 
-// A digit's character without a branch, since the digits of a memory mislead a processor that guesses: behind 9 come seven characters that are
-// not digits.
+// A digit's character without a branch, since the digits of a memory mislead a processor that guesses: between 9 and A stand seven others.
 fn digit(d: u8) -> u8
     requires { ⌜ d < 16 ⌝ }
     ensures { λ b. ⌜ b ≡ Text.digit Upper d ⌝ }
@@ -50,7 +50,7 @@ fn sum(bytes: &[u8]) -> u8
 // Writes a line, and answers the place behind it.
 fn line(buffer: &mut [u8], at: usize, start: &[u8; 2], address: u32, bytes: &[u8]) -> usize
     requires { ⌜ (length (now start) ≡ 2) × (length (now bytes) ≤ 16) × (at + (2 * length (now bytes) + 15) ≤ length (now buffer)) ⌝ }
-    ensures { λ end. ⌜ Export.Places (Export.lineOf (now (start .entry)) address (now (bytes .entry))) (now (buffer .entry)) at (now (buffer .exit)) end ⌝ }
+    ensures { λ e. ⌜ Places (lineOf (now (start .entry)) address (now (bytes .entry))) (now (buffer .entry)) at (now (buffer .exit)) e ⌝ }
 {
     let head = [
         bytes.len() as u8 + 5,
@@ -81,8 +81,8 @@ fn piece(left: usize) -> usize
 }
 
 fn data_lines(memory: &[u8], buffer: &mut [u8]) -> usize
-    requires { ⌜ (length (now memory) ≤ 16777216) × (2 * length (now memory) + 15 * ((length (now memory) + 15) / 16) ≤ length (now buffer)) ⌝ }
-    ensures { λ end. ⌜ Export.Places (Export.dataLines ((length (now (memory .entry)) + 15) / 16) 0 (now (memory .entry))) (now (buffer .entry)) 0 (now (buffer .exit)) end ⌝ }
+    requires { ⌜ (length (now memory) ≤ 16777216) × (length (memoryLines (now memory)) ≤ length (now buffer)) ⌝ }
+    ensures { λ e. ⌜ Places (memoryLines (now (memory .entry))) (now (buffer .entry)) 0 (now (buffer .exit)) e ⌝ }
 {
     let n = memory.len();
     let mut place = 0;
@@ -105,7 +105,7 @@ fn refused(refusal: Refusal) -> Exported
 }
 
 pub fn export(memory: &[u8], buffer: &mut [u8]) -> Exported
-    ensures { λ answer. ⌜ Export.Exports (now (memory .entry)) (now (buffer .entry)) answer (now (buffer .exit)) ⌝ }
+    ensures { λ answer. ⌜ Exports (now (memory .entry)) (now (buffer .entry)) answer (now (buffer .exit)) ⌝ }
 {
     let n = memory.len();
     let length = memory::refused_length(n);

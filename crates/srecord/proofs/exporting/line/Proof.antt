@@ -1,11 +1,11 @@
--- A line's parts stand one behind the other: its start, the digits of count and address, of the data, and of the check byte, and the line feed.
+-- A line's parts stand one behind the other: its start, the digits of count and address, of the data and of the check byte, the line feed.
 -- Assumes nothing.
-use mathlib.Core.Path.{_≡_, refl, sym, ap, _∙_}
+use mathlib.Core.Path.{sym}
 use Prim.Native.Nat.{ℕ, _+_, _*_, _^_, _<_, _≤_}
 use native.Mathlib.Nat.{le-of-lt}
 use native.Mathlib.Omega.{arith}
 use borrow.Author.Needs.{needs}
-use lib.ListN.{length, length-set}
+use lib.ListN.{length-set}
 use lib.Seq.{length-sets}
 use Rattle.srecord.proofs.WrittenLines.{line-length, line-placed}
 use Rattle.srecord.proofs.exporting.line.Statement.{statement}
@@ -53,7 +53,17 @@ same-length c =
     let p : tie.After-pairs = search in
     let q : tie.After-pairs2 = search in
     let r : tie.After-pairs3 = search in
-    rw (length-set, r .pairs3 .ensures, length-sets, q .pairs2 .ensures, length-sets, p .pairs .ensures, length-sets, length-set, length-set)
+    rw (
+      length-set,
+      r .pairs3 .ensures,
+      length-sets,
+      q .pairs2 .ensures,
+      length-sets,
+      p .pairs .ensures,
+      length-sets,
+      length-set,
+      length-set,
+    )
 
 returns : tie.Need-returns
 returns c =
@@ -64,7 +74,10 @@ returns c =
     let r : tie.After-pairs3 = search in
     let w : tie.After-wrapping-add-u8 = search in
     record {
-      places = line-placed (a .buffer .now) (a .at) (a .start .now) (a .address) (a .bytes .now) (s .pre .0) (s .fits .address .fits) (rw (w .wrapping-add-u8 .ensures, w .before .sum2 .ensures, w .before .before .sum .ensures)) (p .pairs .ensures) (q .pairs2 .ensures) (r .pairs3 .ensures);
+      places =
+          line-placed (a .buffer .now) (a .at) (a .start .now) (a .address) (a .bytes .now) (s .pre .0) (s .fits .address .fits)
+          (rw (w .wrapping-add-u8 .ensures, w .before .sum2 .ensures, w .before .before .sum .ensures))
+          (p .pairs .ensures) (q .pairs2 .ensures) (r .pairs3 .ensures);
       ends = sym (rw (line-length (a .start .now) (a .address) (a .bytes .now), s .pre .0) (omega arith));
     }
 

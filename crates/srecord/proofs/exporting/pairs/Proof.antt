@@ -19,7 +19,9 @@ Inv-loop buffer₀ at bytes i₀ buffer i =
 abbrev μ-loop : tie.MeasureT-loop
 μ-loop buffer₀ at bytes i₀ buffer i = length bytes - i
 
-small : (c : tie.After-shared-slice-known2 Inv-loop μ-loop) → getD (c .before .before .before .before .before .args .bytes .now) (c .before .before .loop .i) 0 < 256
+small :
+    (c : tie.After-shared-slice-known2 Inv-loop μ-loop) →
+    getD (c .before .before .before .before .before .args .bytes .now) (c .before .before .loop .i) 0 < 256
 small c = omega (arith, c .shared-slice-known2 .given (c .before .before .loop .i))
 
 room : tie.Need-slice-write-buffer-2 Inv-loop μ-loop
@@ -29,7 +31,12 @@ loop-again : tie.Need-loop-again Inv-loop μ-loop
 loop-again c =
     let b : tie.In-loop Inv-loop μ-loop = search in
     let s : tie.Start Inv-loop μ-loop = search in
-    (search needs, pairs-next (s .args .bytes .now) (b .before .loop .buffer) (s .args .at) (b .before .loop .i) (b .loop-test .taken) (small (search)) (c .before .digit .ensures) (c .digit2 .ensures) ∙ b .before .loop .inv .1)
+    let a = b .before .loop in (
+      search needs,
+      pairs-next (s .args .bytes .now) (a .buffer) (s .args .at) (a .i) (b .loop-test .taken) (small (search)) (c .before .digit .ensures)
+          (c .digit2 .ensures)
+          ∙ a .inv .1,
+    )
 
 returns : tie.Need-returns Inv-loop μ-loop
 returns c = pairs-past _ _ _ _ (c .loop-test .left) ∙ c .before .loop .inv .1

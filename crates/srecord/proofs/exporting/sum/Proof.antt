@@ -1,6 +1,6 @@
 -- The sum so far with the sum of the bytes still to come is the whole sum, in its low byte.
 -- Assumes nothing.
-use mathlib.Core.Path.{_≡_, refl, _∙_}
+use mathlib.Core.Path.{_≡_}
 use Prim.Native.Nat.{_+_, _-_, _%_, _<_}
 use native.Mathlib.Omega.{arith}
 use borrow.Author.Needs.{needs}
@@ -20,12 +20,14 @@ loop-again : tie.Need-loop-again Inv-loop μ-loop
 loop-again c =
     let s : tie.Start Inv-loop μ-loop = search in
     let b : tie.In-loop Inv-loop μ-loop = search in
-    omega (arith, c .wrapping-add-u8 .ensures, sum-next (s .args .bytes .now) (b .before .loop .i) (b .loop-test .taken), b .before .loop .inv .1)
+    let a = b .before .loop in
+    omega (arith, c .wrapping-add-u8 .ensures, sum-next (s .args .bytes .now) (a .i) (b .loop-test .taken), a .inv .1)
 
 returns : tie.Need-returns Inv-loop μ-loop
 returns c =
     let s : tie.Start Inv-loop μ-loop = search in
-    omega (arith, sum-past (s .args .bytes .now) (c .before .loop .i) (c .loop-test .left), c .before .loop .inv .0, c .before .loop .inv .1)
+    let a = c .before .loop in
+    omega (arith, sum-past (s .args .bytes .now) (a .i) (c .loop-test .left), a .inv .0, a .inv .1)
 
 pub sum-spec : {M : Type 1} → statement M
 sum-spec =
