@@ -16,9 +16,9 @@ use Rattle.srecord.specs.Load.{refusalNumber}
 use Rattle.srecord.specs.declared.Exported.{Exported}
 use Rattle.srecord.specs.declared.Refusal.{Refusal}
 use Rattle.srecord.specs.declared.Refusal.the-variants.{Accepted}
-use Rattle.srecord.proofs.Pairs.{behind}
+use Rattle.srecord.proofs.WrittenPairs.{behind}
 use Rattle.srecord.proofs.WrittenLines.{exported-length}
-use Rattle.srecord.proofs.Refusals.{same-refusal}
+use Rattle.srecord.proofs.Refusals.{refusal-determined}
 
 -- One text placed, and another behind it.
 pub then-placed :
@@ -93,6 +93,6 @@ pub export-determined :
     (memory buffer : List ℕ) (a b : Exported) (after other : List ℕ) → Exports memory buffer a after → Exports memory buffer b other →
     (a ≡ b) × (after ≡ other)
 export-determined memory buffer a b after other p q =
-    let why : a .refusal ≡ b .refusal = same-refusal (a .refusal) (b .refusal) (p .refuses ∙ sym (q .refuses)) in
+    let why : a .refusal ≡ b .refusal = refusal-determined (a .refusal) (b .refusal) (p .refuses ∙ sym (q .refuses)) in
     let many : a .length ≡ b .length = p .counts ∙ sym (q .counts) in
     (λ i. record { refusal = why i; length = many i }, p .leaves ∙ sym (q .leaves))

@@ -1,6 +1,6 @@
 pub mod Exports
-pub mod Pairs
 pub mod ReadBack
 pub mod Refusals
 pub mod RoundTrip
 pub mod WrittenLines
+pub mod WrittenPairs

@@ -24,7 +24,7 @@ use Rattle.srecord.specs.Export.{bytesIn, checkByte, counted, lineOf, pa
 use Rattle.srecord.specs.Lines.{content, cut}
 use Rattle.srecord.specs.Load.{records, sum}
 use Rattle.srecord.specs.Records.{Opening, Record, address, among, bytesOf, dataOf, openingOf, openings, recordOf, withBytes}
-use Rattle.srecord.proofs.Pairs.{sum-append}
+use Rattle.srecord.proofs.WrittenPairs.{sum-append}
 
 -- A text in which a byte does not stand.
 abbrev Without : ℕ → List ℕ → Type 0

@@ -26,7 +26,7 @@ use Rattle.srecord.specs.Records.{Record, address, dataOf}
 use Rattle.srecord.proofs.Exports.{length-accepted}
 use Rattle.srecord.proofs.ReadBack.{address-back, bytes-drop, bytes-take, closing-line, closingOpening}
 use Rattle.srecord.proofs.ReadBack.{data-kept, data-line, dataOpening, recordWith, sum-back}
-use Rattle.srecord.proofs.Refusals.{same-refusal}
+use Rattle.srecord.proofs.Refusals.{refusal-determined}
 
 -- The records end at or before an address.
 abbrev Below : ℕ → List Record → Type 0
@@ -207,6 +207,6 @@ loads-back m buffer other e l written after bytes same exports accepted loads =
     let back : Loads text other l after = subst (λ (t : List ℕ). Loads t other l after) same-text loads in
     let trip = round-trip m other bytes (length-accepted m buffer none) same in
     let told = back .answers ∙ trip .0 in
-    let why : l .refusal ≡ Accepted = same-refusal (l .refusal) Accepted (ap (λ (v : Verdict). v .number) told) in
+    let why : l .refusal ≡ Accepted = refusal-determined (l .refusal) Accepted (ap (λ (v : Verdict). v .number) told) in
     let where-told : l .line ≡ 0 = ap (λ (v : Verdict). v .line) told in
     (λ i. record { refusal = why i; line = where-told i }, back .leaves ∙ trip .1)

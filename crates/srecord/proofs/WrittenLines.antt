@@ -14,7 +14,7 @@ use lib.Seq.{drop-drop, sets, take-all, take-length}
 use Rattle.text.specs.Text.{ascii, lineFeed}
 use Rattle.srecord.specs.Export.{Places, checkByte, counted, dataLines, exported, lineOf, pairs}
 use Rattle.srecord.specs.Load.{sum}
-use Rattle.srecord.proofs.Pairs.{behind, both, pairs-append, pairs-length, sum-append}
+use Rattle.srecord.proofs.WrittenPairs.{behind, both, pairs-append, pairs-length, sum-append}
 
 -- Count and address, as the code has them.
 abbrev pub head : ℕ → ℕ → List ℕ

@@ -1,7 +1,7 @@
 -- `digit` adds seven where the digit is a letter.
 -- Assumes nothing.
 use borrow.Author.Needs.{needs}
-use Rattle.srecord.proofs.Pairs.{by-sum}
+use Rattle.srecord.proofs.WrittenPairs.{by-sum}
 use Rattle.srecord.proofs.exporting.digit.Statement.{statement}
 use Rattle.srecord.proofs.exporting.digit.Tie as tie
 

@@ -8,7 +8,7 @@ use borrow.Author.Needs.{needs}
 use lib.ListN.{drop, getD, length, length-set}
 use lib.Seq.{sets}
 use Rattle.srecord.specs.Export.{pairs}
-use Rattle.srecord.proofs.Pairs.{pairs-next, pairs-past}
+use Rattle.srecord.proofs.WrittenPairs.{pairs-next, pairs-past}
 use Rattle.srecord.proofs.exporting.pairs.Statement.{statement}
 use Rattle.srecord.proofs.exporting.pairs.Tie as tie
 

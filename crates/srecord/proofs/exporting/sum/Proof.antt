@@ -6,7 +6,7 @@ use native.Mathlib.Omega.{arith}
 use borrow.Author.Needs.{needs}
 use lib.ListN.{drop, length}
 use Rattle.srecord.specs.Load.{sum}
-use Rattle.srecord.proofs.Pairs.{sum-next, sum-past}
+use Rattle.srecord.proofs.WrittenPairs.{sum-next, sum-past}
 use Rattle.srecord.proofs.exporting.sum.Statement.{statement}
 use Rattle.srecord.proofs.exporting.sum.Tie as tie
 
