@@ -25,7 +25,7 @@ use Rattle.srecord.specs.declared.records.Total.{Total}
 use Rattle.srecord.specs.declared.records.Total.the-variants as total
 use Rattle.srecord.specs.declared.sweep.SoFar.{SoFar}
 use Rattle.srecord.specs.declared.sweep.Swept.{Swept}
-use Rattle.srecord.specs.Lines.{lines}
+use Rattle.srecord.specs.Lines.{content, lines}
 use Rattle.srecord.specs.Records.{Opening, Record, address, bytesOf, dataOf, withBytes}
 use Rattle.srecord.specs.Load.{endOf, isClosing, isCount, isData, kindOf, refusalNumber, sum}
 
@@ -39,6 +39,18 @@ pub record LineAt (text : List ℕ) (at next : ℕ) : Type 0 where
 abbrev pub contentBy : List ℕ → End → Option (List ℕ)
 contentBy line (end.At e) = some (take e line)
 contentBy line end.Missing = none
+
+abbrev pub insideOf : List ℕ → End → Type 0
+insideOf line (end.At e) = e ≤ length line
+insideOf line end.Missing = Unit {0}
+
+pub record EndsAt (line : List ℕ) (e : End) : Type 0 where
+  pub same : contentBy line e ≡ content line
+  pub within : insideOf line e
+
+-- A line's first two bytes are those of a start.
+abbrev pub begins : List ℕ → List ℕ → Bool
+begins line start = eqb (getD line 0 0) (getD start 0 0) && eqb (getD line 1 0) (getD start 1 0)
 
 -- An opening, as the code has it.
 abbrev pub foundOf : Option Opening → Found
@@ -104,7 +116,7 @@ unfoldable pub noted : SoFar → Summary → SoFar
 noted s r =
     record {
       count = cond (isData (r .kind)) (s .count + 1) (s .count);
-      closed = s .closed || isClosing (r .kind);
+      closed = isClosing (r .kind) || s .closed;
       top = cond (eqb (r .length) 0) (s .top) (r .address + r .length);
       ordered = s .ordered && (eqb (r .length) 0 || leb (s .top) (r .address));
     }
@@ -161,8 +173,21 @@ pub record FirstAgain (records : List (Option Record)) (limit low high line : �
 unfoldable pub marked : List ℕ → ℕ → Bool
 marked marks i = eqb (getD marks (i / 8) 0 / 2 ^ (i % 8) % 2) 1
 
--- Marking from `low` to below `high`: whether one of them was marked already; if not, they are marked now, and no other.
-pub record Marks (before : List ℕ) (low high : ℕ) (answer : Bool) (after : List ℕ) : Type 0 where
-  pub taken : answer ≡ true → (i : ℕ) × (low ≤ i) × (i < high) × (marked before i ≡ true)
-  pub free : answer ≡ false → (i : ℕ) → low ≤ i → i < high → marked before i ≡ false
-  pub now : answer ≡ false → (i : ℕ) → marked after i ≡ (marked before i || (leb low i && ltb i high))
+-- Marking the `wanted` ones of 1,048,576: whether one of them was marked already; if not, they are marked now, and no other.
+pub record Marks (before : List ℕ) (wanted : ℕ → Bool) (answer : Bool) (after : List ℕ) : Type 0 where
+  pub taken : answer ≡ true → (i : ℕ) × (i < 1048576) × (wanted i ≡ true) × (marked before i ≡ true)
+  pub free : answer ≡ false → (i : ℕ) → i < 1048576 → wanted i ≡ true → marked before i ≡ false
+  pub now : answer ≡ false → (i : ℕ) → i < 1048576 → marked after i ≡ (marked before i || wanted i)
+
+-- Whether an address is from `low` to below `high`.
+abbrev pub between : ℕ → ℕ → ℕ → Bool
+between low high a = leb low a && ltb a high
+
+-- Whether a line, as the code has it, writes an address,
+abbrev pub writesBy : Parsed → ℕ → Bool
+writesBy (parsed.Record r) a = between (r .address) (r .address + r .length) a
+writesBy parsed.Malformed a = false
+
+-- and whether it writes the one that is number i of the window at `low`.
+abbrev pub writesIn : ℕ → Parsed → ℕ → Bool
+writesIn low line i = writesBy line (low + i)

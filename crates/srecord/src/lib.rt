@@ -106,8 +106,9 @@ fn verdict(text: &[u8], size: usize) -> Loaded
             };
         }
     }
+    let refusal = swept.refusal;
     Loaded {
-        refusal: swept.refusal,
+        refusal: refusal,
         line: swept.line,
     }
 }

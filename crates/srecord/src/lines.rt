@@ -1,9 +1,7 @@
 // Where a line of a text ends (document 02, request One).
-ghost use mathlib.Core.Path.{_≡_};
 ghost use Prim.Native.Nat.{_<_};
 ghost use lib.ListN.{length};
-ghost use Rattle.srecord.specs.Lines.{content};
-ghost use Rattle.srecord.specs.Promises.{LineAt, contentBy};
+ghost use Rattle.srecord.specs.Promises.{EndsAt, LineAt};
 
 // Where a line's content ends, if the line has an end.
 pub enum End {
@@ -28,7 +26,7 @@ pub fn next(text: &[u8], at: usize) -> usize
 
 // A line feed is the line's end, and so is a carriage return before it.
 pub fn content_end(line: &[u8]) -> End
-    ensures { λ e. ⌜ contentBy (now (line .entry)) e ≡ content (now (line .entry)) ⌝ }
+    ensures { λ e. ⌜ EndsAt (now (line .entry)) e ⌝ }
 {
     let n = line.len();
     if n == 0 {

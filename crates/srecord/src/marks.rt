@@ -1,22 +1,23 @@
 // Marks, a bit each, on addresses of a part of the memory.
 ghost use mathlib.Core.Path.{_≡_};
 ghost use Prim.Native.Nat.{_≤_};
-ghost use Rattle.srecord.specs.Promises.{Marks};
+ghost use lib.ListN.{length};
+ghost use Rattle.srecord.specs.Promises.{Marks, between};
 
 // Marks those from `low` to below `high`, up to the first that is marked already, and answers whether there is one.
-pub fn mark(marks: &mut [u8; 131072], low: usize, high: usize) -> bool
-    requires { ⌜ high ≤ 1048576 ⌝ }
-    ensures { λ b. ⌜ Marks (now (marks .entry)) low high b (now (marks .exit)) ⌝ }
+pub fn mark(marks: &mut [u8], low: usize, high: usize) -> bool
+    requires { ⌜ (length (now marks) ≡ 131072) × (low ≤ high) × (high ≤ 1048576) ⌝ }
+    ensures { λ b. ⌜ Marks (now (marks .entry)) (between low high) b (now (marks .exit)) ⌝ }
 {
     let mut i = low;
     while i < high {
         let at = i / 8;
         let old = marks[at];
-        let bit = 1u8 << (i % 8);
-        if old & bit != 0 {
+        let bit = i % 8;
+        if (old >> bit) % 2 == 1 {
             return true;
         }
-        marks[at] = old + bit;
+        marks[at] = old + (1u8 << bit);
         i += 1;
     }
     false

@@ -1,9 +1,10 @@
 // The eight byte strings that open a line (document 02, request One).
 ghost use mathlib.Core.Path.{_≡_};
 ghost use Prim.Native.Nat.{_≤_};
-ghost use lib.ListN.{length, take};
-ghost use Rattle.srecord.specs.Promises.{foundOf};
-ghost use Rattle.srecord.specs.Records.{openingOf, same};
+ghost use lib.ListN.{length};
+ghost use Rattle.srecord.specs.Load.{isClosing, isCount, isData};
+ghost use Rattle.srecord.specs.Promises.{begins, foundOf};
+ghost use Rattle.srecord.specs.Records.{openingOf};
 
 pub const S0: [u8; 2] = *b"S0";
 pub const S1: [u8; 2] = *b"S1";
@@ -22,6 +23,41 @@ pub enum Kind {
     Closing,
 }
 
+impl Kind {
+    pub fn is_data(self) -> bool
+        ensures { λ b. ⌜ b ≡ isData self ⌝ }
+    {
+        match self {
+            Kind::Header => false,
+            Kind::Data => true,
+            Kind::Count => false,
+            Kind::Closing => false,
+        }
+    }
+
+    pub fn is_count(self) -> bool
+        ensures { λ b. ⌜ b ≡ isCount self ⌝ }
+    {
+        match self {
+            Kind::Header => false,
+            Kind::Data => false,
+            Kind::Count => true,
+            Kind::Closing => false,
+        }
+    }
+
+    pub fn is_closing(self) -> bool
+        ensures { λ b. ⌜ b ≡ isClosing self ⌝ }
+    {
+        match self {
+            Kind::Header => false,
+            Kind::Data => false,
+            Kind::Count => false,
+            Kind::Closing => true,
+        }
+    }
+}
+
 // A line's kind and the bytes of its address.
 pub enum Found {
     Opening(Kind, usize),
@@ -30,7 +66,7 @@ pub enum Found {
 
 fn opens(line: &[u8], start: &[u8; 2]) -> bool
     requires { ⌜ 2 ≤ length (now line) ⌝ }
-    ensures { λ r. ⌜ r ≡ same (take 2 (now (line .entry))) (now (start .entry)) ⌝ }
+    ensures { λ r. ⌜ r ≡ begins (now (line .entry)) (now (start .entry)) ⌝ }
 {
     if line[0] != start[0] {
         return false;

@@ -71,10 +71,13 @@ fn number(digits: &[u8], at: usize, k: usize) -> u32
     requires { ⌜ (k ≤ 4) × (2 * (at + k) ≤ length (now digits)) ⌝ }
     ensures { λ n. ⌜ Promises.NumberAt (now (digits .entry)) at k n ⌝ }
 {
-    if k == 0 {
-        return 0;
+    let mut n: u32 = 0;
+    let mut i = 0;
+    while i < k {
+        n = n * 256 + byte(digits, at + i) as u32;
+        i += 1;
     }
-    number(digits, at, k - 1) * 256 + byte(digits, at + k - 1) as u32
+    n
 }
 
 // Whether a line of this kind may have this count; `least` is that of a line without data.
@@ -115,17 +118,17 @@ fn with_bytes(kind: Kind, width: usize, digits: &[u8]) -> Parsed
             if n != count + 1 {
                 return Parsed::Malformed;
             }
-            if !may(kind, width + 1, count) {
-                return Parsed::Malformed;
+            if may(kind, width + 1, count) {
+                let carried = count - (width + 1);
+                return Parsed::Record(Summary {
+                    kind: kind,
+                    width: width,
+                    address: number(digits, 1, width),
+                    length: data_length(kind, carried as u32),
+                    checks: sum == 255,
+                });
             }
-            let carried = count - (width + 1);
-            Parsed::Record(Summary {
-                kind: kind,
-                width: width,
-                address: number(digits, 1, width),
-                length: data_length(kind, carried as u32),
-                checks: sum == 255,
-            })
+            Parsed::Malformed
         }
     }
 }

@@ -6,10 +6,11 @@ use crate::records;
 use crate::records::Parsed;
 use crate::records::Summary;
 ghost use mathlib.Core.Path.{_≡_};
-ghost use mathlib.Core.Bool.{cond};
+ghost use mathlib.Core.Bool.{_&&_, cond, not};
+ghost use lib.Dec.{eqb, ltb};
 ghost use Prim.Native.Nat.{_+_, _^_, _<_};
 ghost use Rattle.memory.specs.Lengths.{first};
-ghost use Rattle.srecord.specs.Load.{isClosing, isData, records, refusalNumber};
+ghost use Rattle.srecord.specs.Load.{isCount, isData, records, refusalNumber};
 ghost use Rattle.srecord.specs.Promises as Promises;
 
 // What is known of the lines so far: data lines, whether one was a closing line, where the last data ended, and whether each began at or
@@ -29,6 +30,20 @@ pub struct Swept {
     pub ordered: bool,
 }
 
+fn outside(size: usize, r: Summary) -> bool
+    ensures { λ b. ⌜ b ≡ (not (eqb (r .length) 0) && ltb size (r .address + r .length)) ⌝ }
+{
+    (r.length != 0) & (size < r.address as usize + r.length as usize)
+}
+
+fn wrong_number(count: usize, r: Summary) -> bool
+    ensures { λ b. ⌜ b ≡ (isCount (r .kind) && not (eqb (r .address) count)) ⌝ }
+{
+    let kind = r.kind;
+    kind.is_count() & (r.address as usize != count)
+}
+
+// A record's refusal, address written twice left aside.
 fn single(size: usize, s: SoFar, r: Summary) -> Refusal
     ensures { λ a. ⌜ refusalNumber a ≡ first (Promises.singleTests size (s .closed) (s .count) r) ⌝ }
 {
@@ -38,67 +53,44 @@ fn single(size: usize, s: SoFar, r: Summary) -> Refusal
     if !r.checks {
         return Refusal::Check;
     }
-    if r.length != 0 {
-        if size < r.address as usize + r.length as usize {
-            return Refusal::Outside;
-        }
+    if outside(size, r) {
+        return Refusal::Outside;
     }
-    let kind = r.kind;
-    match kind {
-        Kind::Count => {
-            if r.address as usize != s.count {
-                return Refusal::Number;
-            }
-            Refusal::Accepted
-        }
-        Kind::Header => Refusal::Accepted,
-        Kind::Data => Refusal::Accepted,
-        Kind::Closing => Refusal::Accepted,
+    if wrong_number(s.count, r) {
+        return Refusal::Number;
     }
+    Refusal::Accepted
 }
 
 fn count_after(kind: Kind, count: usize) -> usize
     requires { ⌜ count + 1 < 2 ^ 64 ⌝ }
     ensures { λ n. ⌜ n ≡ cond (isData kind) (count + 1) count ⌝ }
 {
-    match kind {
-        Kind::Header => count,
-        Kind::Data => count + 1,
-        Kind::Count => count,
-        Kind::Closing => count,
+    if kind.is_data() {
+        return count + 1;
     }
+    count
 }
 
-fn closes(kind: Kind) -> bool
-    ensures { λ b. ⌜ b ≡ isClosing kind ⌝ }
+fn top_after(top: usize, r: Summary) -> usize
+    ensures { λ n. ⌜ n ≡ cond (eqb (r .length) 0) top (r .address + r .length) ⌝ }
 {
-    match kind {
-        Kind::Header => false,
-        Kind::Data => false,
-        Kind::Count => false,
-        Kind::Closing => true,
+    if r.length == 0 {
+        return top;
     }
+    r.address as usize + r.length as usize
 }
 
 fn noted(s: SoFar, r: Summary) -> SoFar
     requires { ⌜ s .count + 1 < 2 ^ 64 ⌝ }
     ensures { λ n. ⌜ n ≡ Promises.noted s r ⌝ }
 {
-    let count = count_after(r.kind, s.count);
-    let closed = s.closed || closes(r.kind);
-    if r.length == 0 {
-        return SoFar {
-            count: count,
-            closed: closed,
-            top: s.top,
-            ordered: s.ordered,
-        };
-    }
+    let kind = r.kind;
     SoFar {
-        count: count,
-        closed: closed,
-        top: r.address as usize + r.length as usize,
-        ordered: s.ordered && s.top <= r.address as usize,
+        count: count_after(kind, s.count),
+        closed: kind.is_closing() | s.closed,
+        top: top_after(s.top, r),
+        ordered: s.ordered & ((r.length == 0) | (s.top <= r.address as usize)),
     }
 }
 

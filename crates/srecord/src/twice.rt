@@ -6,14 +6,18 @@ use crate::records::Parsed;
 use crate::records::Summary;
 ghost use mathlib.Core.Path.{_≡_};
 ghost use Prim.Native.Nat.{_+_, _≤_};
+ghost use lib.ListN.{length};
 ghost use Rattle.srecord.specs.Load.{records};
-ghost use Rattle.srecord.specs.Promises.{FirstAgain, Marks};
+ghost use Rattle.srecord.specs.Promises.{FirstAgain, Marks, writesIn};
 
 // The addresses that are marked at once: a bit each, 128 KiB.
 const WINDOW: usize = 1048576;
 
-// Marks the addresses that a line writes from `low` on, and answers whether one was marked already.
-fn mark_line(marks: &mut [u8; 131072], low: usize, r: Summary) -> bool {
+// Marks the addresses that a line's data go to from `low` on, and answers whether one was marked already.
+fn mark_data(marks: &mut [u8], low: usize, r: Summary) -> bool
+    requires { ⌜ (length (now marks) ≡ 131072) × (low ≤ 16777216) ⌝ }
+    ensures { λ b. ⌜ Marks (now (marks .entry)) (writesIn low (Parsed.Record r)) b (now (marks .exit)) ⌝ }
+{
     let begin = r.address as usize;
     let end = begin + r.length as usize;
     if end <= low {
@@ -23,8 +27,22 @@ fn mark_line(marks: &mut [u8; 131072], low: usize, r: Summary) -> bool {
         return false;
     }
     let from = if begin < low { 0 } else { begin - low };
-    let to = if end - low < WINDOW { end - low } else { WINDOW };
+    let to = if end - low < WINDOW {
+        end - low
+    } else {
+        WINDOW
+    };
     marks::mark(marks, from, to)
+}
+
+fn mark_line(marks: &mut [u8], low: usize, line: Parsed) -> bool
+    requires { ⌜ (length (now marks) ≡ 131072) × (low ≤ 16777216) ⌝ }
+    ensures { λ b. ⌜ Marks (now (marks .entry)) (writesIn low line) b (now (marks .exit)) ⌝ }
+{
+    match line {
+        Parsed::Record(r) => mark_data(marks, low, r),
+        Parsed::Malformed => false,
+    }
 }
 
 // Of the first `limit` lines, the one that writes again an address in the window at `low`.
@@ -40,13 +58,9 @@ fn again_in(text: &[u8], limit: usize, low: usize) -> usize
             return limit;
         }
         let next = lines::next(text, at);
-        match records::parse(&text[at..next]) {
-            Parsed::Record(r) => {
-                if mark_line(&mut marks, low, r) {
-                    return n;
-                }
-            }
-            Parsed::Malformed => {}
+        let line = records::parse(&text[at..next]);
+        if mark_line(&mut marks, low, line) {
+            return n;
         }
         n += 1;
         at = next;
