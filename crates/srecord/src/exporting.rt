@@ -21,6 +21,7 @@ fn digit(d: u8) -> u8
     48 + d + (d + 6) / 16 * 7
 }
 
+// The digits of bytes, two each.
 fn pairs(buffer: &mut [u8], at: usize, bytes: &[u8])
     requires { ⌜ at + 2 * length (now bytes) ≤ length (now buffer) ⌝ }
     ensures { λ _. ⌜ now (buffer .exit) ≡ sets (now (buffer .entry)) at (Export.pairs (now (bytes .entry))) ⌝ }
@@ -52,6 +53,7 @@ fn line(buffer: &mut [u8], at: usize, start: &[u8; 2], address: u32, bytes: &[u8
     requires { ⌜ (length (now start) ≡ 2) × (length (now bytes) ≤ 16) × (at + (2 * length (now bytes) + 15) ≤ length (now buffer)) ⌝ }
     ensures { λ e. ⌜ Places (lineOf (now (start .entry)) address (now (bytes .entry))) (now (buffer .entry)) at (now (buffer .exit)) e ⌝ }
 {
+    // Count and address.
     let head = [
         bytes.len() as u8 + 5,
         (address / 0x100_0000) as u8,
@@ -115,6 +117,7 @@ pub fn export(memory: &[u8], buffer: &mut [u8]) -> Exported
     if length != 0 {
         return refused(Refusal::Size);
     }
+    // Two digits a byte; and 15 characters more a line: start, count, address, check byte and line feed.
     if buffer.len() < 2 * n + 15 * ((n + 15) / 16) + 15 {
         return refused(Refusal::Room);
     }

@@ -14,30 +14,35 @@ use Rattle.srecord.proofs.exporting.line.Tie as tie
 doubled : {n : ℕ} → n ≤ 16 → 2 * n < 2 ^ 64
 doubled h = omega arith
 
-room : (at n m : ℕ) → at + (2 * n + 15) ≤ m → (at + 1 < m) × (at + 2 + 10 ≤ m) × (at + 12 + 2 * n ≤ m) × (at + 12 + 2 * n + 2 < m)
-room at n m h = (omega arith, omega arith, omega arith, omega arith)
+room :
+    (at n m : ℕ) → at + (2 * n + 15) ≤ m →
+    (at < m) × (at + 1 < m) × (at + 2 + 10 ≤ m) × (at + 12 + 2 * n ≤ m) × (at + 12 + 2 * n + 2 < m)
+room at n m h = (omega arith, omega arith, omega arith, omega arith, omega arith)
 
 mul-end : tie.Need-mul-end
 mul-end c = let s : tie.Start = search in record { fits = doubled (s .pre .1) }
 
+slice-write-buffer : tie.Need-slice-write-buffer
+slice-write-buffer c = let s : tie.Start = search in room _ _ _ (s .pre .2) .0
+
 slice-write-buffer-2 : tie.Need-slice-write-buffer-2
-slice-write-buffer-2 c = let s : tie.Start = search in rw (length-set) (room _ _ _ (s .pre .2) .0)
+slice-write-buffer-2 c = let s : tie.Start = search in rw (length-set) (room _ _ _ (s .pre .2) .1)
 
 pairs-requires : tie.Need-pairs-requires
-pairs-requires c κs = let s : tie.Start = search in rw (length-set, length-set) (room _ _ _ (s .pre .2) .1)
+pairs-requires c κs = let s : tie.Start = search in rw (length-set, length-set) (room _ _ _ (s .pre .2) .2)
 
 pairs-requires-2 : tie.Need-pairs-requires-2
 pairs-requires-2 c κs =
     let s : tie.Start = search in
     let p : tie.After-pairs = search in
-    rw (p .pairs .ensures, length-sets, length-set, length-set) (room _ _ _ (s .pre .2) .2)
+    rw (p .pairs .ensures, length-sets, length-set, length-set) (room _ _ _ (s .pre .2) .3)
 
 pairs-requires-3 : tie.Need-pairs-requires-3
 pairs-requires-3 c κs =
     let s : tie.Start = search in
     let p : tie.After-pairs = search in
     let q : tie.After-pairs2 = search in
-    rw (q .pairs2 .ensures, length-sets, p .pairs .ensures, length-sets, length-set, length-set) (le-of-lt (room _ _ _ (s .pre .2) .3))
+    rw (q .pairs2 .ensures, length-sets, p .pairs .ensures, length-sets, length-set, length-set) (le-of-lt (room _ _ _ (s .pre .2) .4))
 
 slice-write-buffer-3 : tie.Need-slice-write-buffer-3
 slice-write-buffer-3 c =
@@ -46,7 +51,7 @@ slice-write-buffer-3 c =
     let q : tie.After-pairs2 = search in
     let r : tie.After-pairs3 = search in
     rw (r .pairs3 .ensures, length-sets, q .pairs2 .ensures, length-sets, p .pairs .ensures, length-sets, length-set, length-set)
-    (room _ _ _ (s .pre .2) .3)
+    (room _ _ _ (s .pre .2) .4)
 
 same-length : tie.Need-same-length
 same-length c =
@@ -85,6 +90,6 @@ pub line-spec : {M : Type 1} → statement M
 line-spec =
     tie.close
     (tie.spec (search needs) (search needs) (search needs) (search needs) (search needs) (search needs) (search needs) (search needs)
-    (search needs) (search needs) (search needs) (search needs) mul-end (search needs) (search needs) (search needs) (search needs)
+    (search needs) (search needs) (search needs) (search needs) mul-end (search needs) (search needs) slice-write-buffer (search needs)
     (search needs) slice-write-buffer-2 (search needs) (search needs) pairs-requires (search needs) pairs-requires-2 (search needs)
     pairs-requires-3 (search needs) slice-write-buffer-3 (search needs) same-length returns)
