@@ -11,3 +11,8 @@ pub mod Addresses
 pub mod LineTests
 pub mod Verdicts
 pub mod Loading
+pub mod WrittenPairs
+pub mod WrittenLines
+pub mod Exports
+pub mod ReadBack
+pub mod RoundTrip

@@ -3,9 +3,9 @@ use mathlib.Core.Path.{_≡_}
 use mathlib.Core.Bool.{cond}
 use mathlib.Core.List.{List, [], _∷_, _++_}
 use Prim.Native.Nat.{ℕ, zero, suc, _+_, _-_, _/_, _%_}
-use Prim.Native.String.{String}
 use lib.Dec.{eqb, ltb}
 use lib.ListN.{drop, length, take}
+use lib.Seq.{sets}
 use Rattle.memory.specs.Lengths.{first, lengthTests, test}
 use Rattle.text.specs.Text.{ascii, hexIn, lineFeed}
 use Rattle.text.specs.declared.digits.Case.the-variants.{Upper}
@@ -30,19 +30,22 @@ checkByte bytes = 0xff - sum bytes % 256
 abbrev pub counted : ℕ → List ℕ → List ℕ
 counted address bytes = (4 + length bytes + 1) ∷ (bytesIn 4 address ++ bytes)
 
-unfoldable pub lineOf : String → ℕ → List ℕ → List ℕ
+unfoldable pub lineOf : List ℕ → ℕ → List ℕ → List ℕ
 lineOf start address bytes =
     let all = counted address bytes in
-    ascii start ++ pairs (all ++ (checkByte all ∷ [])) ++ lineFeed
+    start ++ pairs (all ++ (checkByte all ∷ [])) ++ lineFeed
 
 -- "S3 lines of 16 bytes (the last may be shorter)": n of them, from an address on.
 unfoldable pub dataLines : ℕ → ℕ → List ℕ → List ℕ
 dataLines zero address memory = []
-dataLines (suc n) address memory = lineOf "S3" address (take 16 memory) ++ dataLines n (address + 16) (drop 16 memory)
+dataLines (suc n) address memory = lineOf (ascii "S3") address (take 16 memory) ++ dataLines n (address + 16) (drop 16 memory)
+
+abbrev pub memoryLines : List ℕ → List ℕ
+memoryLines memory = dataLines ((length memory + 15) / 16) 0 memory
 
 -- "and a closing S7 with address 0"
 unfoldable pub exported : List ℕ → List ℕ
-exported memory = dataLines ((length memory + 15) / 16) 0 memory ++ lineOf "S7" 0 []
+exported memory = memoryLines memory ++ lineOf (ascii "S7") 0 []
 
 -- "export, 1, 2, then 16 buffer too short"
 abbrev pub refusedExport : List ℕ → List ℕ → ℕ
@@ -55,3 +58,8 @@ pub record Exports (memory buffer : List ℕ) (answer : Exported) (after : List 
   pub refuses : refusalNumber (answer .refusal) ≡ refusedExport memory buffer
   pub counts : answer .length ≡ cond (eqb (refusedExport memory buffer) 0) (length (exported memory)) 0
   pub leaves : after ≡ cond (eqb (refusedExport memory buffer) 0) (exported memory ++ drop (length (exported memory)) buffer) buffer
+
+-- What the inner functions that write promise: the text from a place on, every other byte as it was, and the place behind the text.
+pub record Places (text before : List ℕ) (at : ℕ) (after : List ℕ) (end : ℕ) : Type 0 where
+  pub places : after ≡ sets before at text
+  pub ends : end ≡ at + length text

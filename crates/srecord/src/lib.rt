@@ -1,5 +1,5 @@
 // Motorola S-record text, read into a lent memory and written into a lent buffer (document 02, request One).
-mod export;
+mod exporting;
 mod lines;
 mod marks;
 mod openings;
@@ -8,8 +8,8 @@ mod records;
 mod sweep;
 mod twice;
 
+pub use exporting::export;
 ghost use mathlib.Core.Path.{_≡_};
-ghost use Rattle.srecord.specs.Export.{Exports};
 ghost use Rattle.srecord.specs.Load as Load;
 ghost use Rattle.srecord.specs.Load.{Loads, refusalNumber};
 
