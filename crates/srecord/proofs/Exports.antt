@@ -5,7 +5,7 @@ use mathlib.Core.Bool.{Bool, true, false, _||_, cond, not}
 use mathlib.Core.List.{List, [], _∷_, _++_}
 use Prim.Native.Nat.{ℕ, _+_, _*_, _/_, _%_, _<_, _≤_}
 use native.Mathlib.Nat.{add-assoc, zero-add}
-use borrow.Author.Tests.{eq-eqb, le-ltb, lt-ltb, ne-eqb}
+use borrow.Author.Tests.{eq-eqb, le-ltb, lt-ltb, ltb-false, ne-eqb}
 use lib.Dec.{eqb, ltb}
 use lib.ListN.{drop, length, length-append}
 use lib.Seq.{sets, sets-eq}
@@ -60,6 +60,17 @@ module _ (memory buffer : List ℕ) where
 
   pub room-suffices : refusedLength (length memory) ≡ 0 → length (exported memory) ≤ length buffer → 0 ≡ refusedExport memory buffer
   room-suffices e enough = sym (room-decides e ∙ ap (λ (t : Bool). cond t 16 0) (le-ltb _ _ enough))
+
+  -- A text that was written fits.
+  pub text-fits : (answer : Exported) (after : List ℕ) → Exports memory buffer answer after → refusalNumber (answer .refusal) ≡ 0 → answer .length ≤ length buffer
+  text-fits answer after done accepted =
+      let none = sym (done .refuses) ∙ accepted in
+      let fits : short ≡ false = go short (sym (room-decides (length-accepted none)) ∙ none) in
+      rw (done .counts, none) (ltb-false (length buffer) (length (exported memory)) fits)
+    where
+      go : (t : Bool) → _≡_ {A = ℕ} (cond t 16 0) 0 → t ≡ false
+      go true e = cc
+      go false e = refl
 
   pub refused-exports :
       (why : Refusal) → refusalNumber why ≡ refusedExport memory buffer → (refusalNumber why ≡ 0 → ⊥) →

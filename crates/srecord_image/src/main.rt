@@ -1,13 +1,21 @@
 // Reads S-record text on standard input into a memory of 65,536 zeros, and writes the memory; or says why the text is refused.
 use libc::STDIN_FILENO;
 use libc::STDOUT_FILENO;
+ghost use mathlib.Core.Path.{_≡_};
+ghost use lib.ListN.{length};
 
 // The longest text that is taken: 1 MiB.
 const LONGEST: usize = 1048576;
 
+// Room for the longest text and one byte more, to see that there is more.
+fn room() -> [u8; 1048577]
+    ensures { λ b. ⌜ 1048577 ≡ length b ⌝ }
+{
+    [0; 1048577]
+}
+
 fn main() {
-    // One byte more than the longest text, to see that there is more.
-    let mut text = [0u8; 1048577];
+    let mut text = room();
     let mut memory = [0u8; 65536];
     let length = io::read_full(STDIN_FILENO, &mut text);
     print_image(&text[..length], &mut memory);

@@ -13,7 +13,7 @@ use Rattle.memory.specs.Lengths.{refusedLength}
 use Rattle.srecord.specs.Export.{exported}
 use Rattle.srecord.specs.declared.Refusal.the-variants.{Ragged, Size, Room}
 use Rattle.srecord.proofs.Exports.{accepted-exports, length-refuses, refused-exports, room-refuses, room-suffices, then-placed}
-use Rattle.srecord.proofs.Refusals.{size-left}
+use Rattle.memory.proofs.Acceptance.{size-left}
 use Rattle.srecord.proofs.WrittenLines.{exported-length, lines-length, linesLength}
 use Rattle.srecord.proofs.exporting.export.Statement.{statement}
 use Rattle.srecord.proofs.exporting.export.Tie as tie
