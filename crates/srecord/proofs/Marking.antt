@@ -105,7 +105,7 @@ between-more low i after j = go (eqb j i) refl
 
 -- Nothing asked for, nothing marked.
 pub marks-nothing :
-    (marks : List ℕ) (wanted : ℕ → Bool) → ((i : ℕ) → i < 1048576 → wanted i ≡ false) → Marks marks wanted false marks
+    (marks : List ℕ) (wanted : ℕ → Bool) → ((i : ℕ) → i < 229376 → wanted i ≡ false) → Marks marks wanted false marks
 marks-nothing marks wanted none =
     record {
       taken = λ e. absurd (false≢true e);
@@ -115,12 +115,12 @@ marks-nothing marks wanted none =
 
 module _ {before after : List ℕ} {wanted : ℕ → Bool} where
   -- What is not asked for is as it was.
-  as-before : Marks before wanted false after → (i : ℕ) → i < 1048576 → wanted i ≡ false → marked before i ≡ marked after i
+  as-before : Marks before wanted false after → (i : ℕ) → i < 229376 → wanted i ≡ false → marked before i ≡ marked after i
   as-before m i below new = sym (m .now refl i below ∙ rw (new, or-false))
 
   -- The same is asked for in other words.
   pub marks-like :
-      {answer : Bool} (other : ℕ → Bool) → Marks before wanted answer after → ((i : ℕ) → i < 1048576 → other i ≡ wanted i) →
+      {answer : Bool} (other : ℕ → Bool) → Marks before wanted answer after → ((i : ℕ) → i < 229376 → other i ≡ wanted i) →
       Marks before other answer after
   marks-like other m same =
       record {
@@ -140,7 +140,7 @@ module _ {before after : List ℕ} {wanted : ℕ → Bool} where
         now = λ e j below. with-mark after i j inside clear ∙ rw (m .now refl j below, more j, or-assoc);
       }
     where
-      free : (j : ℕ) → j < 1048576 → (same : Bool) → eqb j i ≡ same → (wanted j || same) ≡ true → marked before j ≡ false
+      free : (j : ℕ) → j < 229376 → (same : Bool) → eqb j i ≡ same → (wanted j || same) ≡ true → marked before j ≡ false
       free j below true e w =
           let here = eqb-true j i e in
           rw here (as-before m i (rw (← here) below) new ∙ clear)
@@ -148,7 +148,7 @@ module _ {before after : List ℕ} {wanted : ℕ → Bool} where
 
   -- One more is asked for, and was marked before.
   pub marks-taken :
-      (other : ℕ → Bool) (i : ℕ) → Marks before wanted false after → i < 1048576 → wanted i ≡ false → other i ≡ true →
+      (other : ℕ → Bool) (i : ℕ) → Marks before wanted false after → i < 229376 → wanted i ≡ false → other i ≡ true →
       marked after i ≡ true → Marks before other true after
   marks-taken other i m below new asked full =
       record {
@@ -169,7 +169,7 @@ same-test a b c d to from = go (leb c d) refl
 
 -- Addresses of a window at `low`, and their numbers in it.
 pub window :
-    (begin end low i from to : ℕ) → i < 1048576 → from ≡ begin - low → to ≡ min (end - low) 1048576 →
+    (begin end low i from to : ℕ) → i < 229376 → from ≡ begin - low → to ≡ min (end - low) 229376 →
     between begin end (low + i) ≡ between from to i
 window begin end low i from to below starts ends =
     rw (

@@ -5,22 +5,22 @@ use mathlib.Core.Bool.{Bool, true, false, and-eq-true-iff, cond}
 use mathlib.Core.List.{List, [], _∷_, map}
 use mathlib.Core.Option.{Option, none, some}
 use Prim.Native.Nat.{ℕ, suc, _+_, _-_, _*_, _<_, _≤_}
-use native.Mathlib.Nat.{add-zero, not-suc-le-zero}
+use native.Mathlib.Nat.{add-zero, le-refl, not-suc-le-zero}
 use native.Mathlib.Numerals.{add-one}
 use native.Mathlib.Omega.{arith}
 use borrow.Author.Tests.{eqb-true}
 use lib.Dec.{eqb}
 use lib.ListN.{drop, drop-of-length-le, getD, length, length-drop, length-take, set, take}
-use lib.Seq.{drop-cons, getD-drop, getD-take, length-take-le, sets, take-take}
+use lib.Seq.{drop-at, drop-cons, getD-drop, getD-take, length-take-le, sets, take-add, take-all, take-take}
 use Rattle.text.specs.declared.reading.Read.the-variants.{Number}
 use Rattle.srecord.specs.Lines.{content, cut, endsIn, lines, withoutLast}
 use Rattle.srecord.specs.Load.{placed, records}
 use Rattle.srecord.specs.Records.{Opening, Record, bytesOf, carried, dataFor, dataOf, ended, fits, may, opened, openingOf, recordOf, withBytes}
-use Rattle.srecord.specs.Promises.{ByteAt, LineAt, pairAt, placedBy}
+use Rattle.srecord.specs.Promises.{ByteAt, LineAt, lengthFor, pairAt, placedBy}
 use Rattle.srecord.specs.declared.openings.Kind.{Kind}
 use Rattle.srecord.specs.declared.openings.Kind.the-variants.{Header, Data, Count, Closing}
 use Rattle.srecord.proofs.Pairs.{pair-of, twice-as-long}
-use Rattle.srecord.proofs.Summaries.{may-least}
+use Rattle.srecord.proofs.Summaries.{length-for, may-least}
 
 -- What is left to write of n bytes behind the first i.
 abbrev pub StillPlaces : List ℕ → ℕ → ℕ → List ℕ → ℕ → ℕ → List ℕ → Type 0
@@ -65,8 +65,15 @@ module _ (memory text : List ℕ) (at : ℕ) where
   unfolding placed cut
   nothing-to-place over = rw (drop-of-length-le text over)
 
-never : {A : Type 0} {a : A} → none ≡ some a → ⊥
+-- All that stands behind the opening.
+pub whole : (line : List ℕ) → take (length line - 2) (drop 2 line) ≡ drop 2 line
+whole line = take-all (length line - 2) (drop 2 line) (rw (length-drop 2 line) (le-refl (length line - 2)))
+
+pub never : {A : Type 0} {a : A} → none ≡ some a → ⊥
 never e = let z : _≡_ {A = ℕ} 0 1 = cc in omega arith
+
+pub same-opening : {x : Option Opening} {o p : Opening} → x ≡ some o → x ≡ some p → o ≡ p
+same-opening e f = cc
 
 -- A line's content is a part of the line, from its begin.
 content-takes : (line c : List ℕ) → content line ≡ some c → (e : ℕ) × (c ≡ take e line) × (e ≤ length line)
@@ -91,34 +98,40 @@ of-ended : (x : Option (List ℕ)) (r : Record) → ended x ≡ some r → (c : 
 of-ended none r e = absurd (never e)
 of-ended (some c) r e = (c, refl, e)
 
-of-opened : (x : Option Opening) (line : List ℕ) (r : Record) → opened x line ≡ some r → (o : Opening) × (withBytes o (bytesOf (drop 2 line)) ≡ some r)
+of-opened :
+    (x : Option Opening) (line : List ℕ) (r : Record) → opened x line ≡ some r →
+    (o : Opening) × (x ≡ some o) × (withBytes o (bytesOf (drop 2 line)) ≡ some r)
 of-opened none line r e = absurd (never e)
-of-opened (some o) line r e = (o, e)
+of-opened (some o) line r e = (o, refl, e)
 
 of-bytes :
     (o : Opening) (x : Option (List ℕ)) (r : Record) → withBytes o x ≡ some r →
-    (x ≡ some (r .bytes)) × (fits (r .opening) (r .bytes) ≡ true)
+    (x ≡ some (r .bytes)) × (fits (r .opening) (r .bytes) ≡ true) × (o ≡ r .opening)
 of-bytes o none r e = absurd (never e)
 of-bytes o (some bytes) r e = go (fits o bytes) refl e
   where
     go :
         (t : Bool) → fits o bytes ≡ t → cond t (some (record { opening = o; bytes = bytes })) none ≡ some r →
-        (some bytes ≡ some (r .bytes)) × (fits (r .opening) (r .bytes) ≡ true)
+        (some bytes ≡ some (r .bytes)) × (fits (r .opening) (r .bytes) ≡ true) × (o ≡ r .opening)
     go true f e =
         let same : record { opening = o; bytes = bytes } ≡ r = cc in
-        (ap some (ap (λ (x : Record). x .bytes) same), sym (ap (λ (x : Record). fits (x .opening) (x .bytes)) same) ∙ f)
+        (ap some (ap (λ (x : Record). x .bytes) same), sym (ap (λ (x : Record). fits (x .opening) (x .bytes)) same) ∙ f,
+        ap (λ (x : Record). x .opening) same)
     go false f e = absurd (never e)
 
 module _ (line : List ℕ) (r : Record) (is : recordOf line ≡ some r) where
   -- The digits that stand before the line's end.
-  read : (e : ℕ) × (e ≤ length line) × (bytesOf (drop 2 (take e line)) ≡ some (r .bytes)) × (fits (r .opening) (r .bytes) ≡ true)
+  read :
+      (e : ℕ) × (e ≤ length line) × (bytesOf (drop 2 (take e line)) ≡ some (r .bytes)) × (fits (r .opening) (r .bytes) ≡ true)
+      × (openingOf (take e line) ≡ some (r .opening))
   unfolding recordOf
   read =
       let c = of-ended (content line) r is in
       let t = content-takes line (c .0) (c .1) in
       let o = of-opened (openingOf (c .0)) (c .0) r (c .2) in
-      let b = of-bytes (o .0) (bytesOf (drop 2 (c .0))) r (o .1) in
-      (t .0, t .2, rw (t .1) at (b .0), b .1)
+      let b = of-bytes (o .0) (bytesOf (drop 2 (c .0))) r (o .2) in
+      (t .0, t .2, sym (ap (λ (l : List ℕ). bytesOf (drop 2 l)) (t .1)) ∙ b .0, b .1,
+      sym (ap openingOf (t .1)) ∙ o .1 ∙ ap some (b .2))
 
   counted : (length (r .bytes) ≡ getD (r .bytes) 0 0 + 1) × (r .opening .width + 1 ≤ getD (r .bytes) 0 0)
   counted =
@@ -165,3 +178,32 @@ module _ (line : List ℕ) (r : Record) (is : recordOf line ≡ some r) where
           (line-pairs (least + j) (omega (arith, few Data, counted)))
       go Count j inside = absurd (not-suc-le-zero inside)
       go Closing j inside = absurd (not-suc-le-zero inside)
+
+  -- The opening and the count can be read from the line itself.
+  pub opening-seen : openingOf line ≡ some (r .opening)
+  unfolding openingOf
+  opening-seen = rw (take-take 2 (read .0) line (omega (arith, digits-end))) at (read .4)
+
+  pub count-seen : (b : ℕ) → ByteAt (drop 2 line) 0 b → b ≡ getD (r .bytes) 0 0
+  count-seen b here = here (getD (r .bytes) 0 0) (line-pairs 0 (omega (arith, counted)))
+
+  module _ (count : ℕ) (seen : count ≡ getD (r .bytes) 0 0) where
+    pub long-enough : 4 + 2 * count ≤ length line
+    long-enough = omega (arith, digits-end, counted, read .1)
+
+    pub count-enough : r .opening .width + 1 ≤ count
+    count-enough = omega (arith, counted)
+
+    pub digits-read : bytesOf (take (4 + 2 * count - 2) (drop 2 line)) ≡ some (r .bytes)
+    digits-read =
+        let m = 4 + 2 * count - 2 in
+        let e : 2 + m ≡ read .0 = omega (arith, digits-end, counted) in
+        let two : length (take 2 line) ≡ 2 = length-take-le 2 line (room .0) in
+        rw (← drop-at (take 2 line) (take m (drop 2 line)) 2 two, ← take-add 2 m line, e) (read .2)
+
+    pub data-length : lengthFor (r .opening .kind) (count - (r .opening .width + 1)) ≡ length (dataOf r)
+    data-length =
+        let least = r .opening .width + 1 in
+        let all : length (carried r) ≡ count - least =
+          rw (← seen) (length-take-le (count - least) (drop least (r .bytes)) (rw (length-drop least (r .bytes)) (omega (arith, counted)))) in
+        rw (← all) (length-for (r .opening .kind) (carried r))

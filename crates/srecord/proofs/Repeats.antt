@@ -15,7 +15,7 @@ use Rattle.srecord.specs.declared.records.Parsed.{Parsed}
 use Rattle.srecord.specs.Lines.{cut, lines}
 use Rattle.srecord.specs.Load.{records}
 use Rattle.srecord.specs.Records.{Record, recordOf}
-use Rattle.srecord.specs.Promises.{Again, FirstAgain, LineAt, Marks, Once, marked, parsedOf, writes, writesBy}
+use Rattle.srecord.specs.Promises.{Again, AllRead, FirstAgain, LineAt, Marks, Once, Spans, marked, writes, writesBy}
 
 -- One of the first n lines writes an address.
 pub record Written (lines : List (Option Record)) (n a : ℕ) : Type 0 where
@@ -25,9 +25,9 @@ pub record Written (lines : List (Option Record)) (n a : ℕ) : Type 0 where
 
 -- The lines passed write no address of the window twice, and the marks are on those that they write.
 pub record Passed (lines : List (Option Record)) (low n : ℕ) (marks : List ℕ) : Type 0 where
-  pub once : Once lines n low (low + 1048576)
-  pub all : (i : ℕ) → i < 1048576 → Written lines n (low + i) → marked marks i ≡ true
-  pub only : (i : ℕ) → i < 1048576 → marked marks i ≡ true → Written lines n (low + i)
+  pub once : Once lines n low (low + 229376)
+  pub all : (i : ℕ) → i < 229376 → Written lines n (low + i) → marked marks i ≡ true
+  pub only : (i : ℕ) → i < 229376 → marked marks i ≡ true → Written lines n (low + i)
 
 unmarked : (size i : ℕ) → i / 8 < size → marked (replicate size 0) i ≡ false
 unfolding marked
@@ -35,7 +35,7 @@ unmarked size i below = rw (getD-replicate {A = ℕ} size (i / 8) 0 0 below, zer
 
 module _ (lines : List (Option Record)) where
   -- No line passed, no mark.
-  pub none-passed : (low size : ℕ) → 131072 ≤ size → Passed lines low 0 (replicate size 0)
+  pub none-passed : (low size : ℕ) → 28672 ≤ size → Passed lines low 0 (replicate size 0)
   none-passed low size room =
       record {
         once = λ i j a less below. omega arith;
@@ -52,7 +52,7 @@ module _ (lines : List (Option Record)) where
         record { earlier = w .line; address = low + t .0; before = w .before; first = w .wrote; second = t .2 }
 
     module _ (m : Marks before (λ i. writes (getD lines n none) (low + i)) false after) where
-      all : (i : ℕ) → i < 1048576 → Written lines (n + 1) (low + i) → marked after i ≡ true
+      all : (i : ℕ) → i < 229376 → Written lines (n + 1) (low + i) → marked after i ≡ true
       all i below w = go (eqb (w .line) n) refl
         where
           go : (last : Bool) → eqb (w .line) n ≡ last → marked after i ≡ true
@@ -62,7 +62,7 @@ module _ (lines : List (Option Record)) where
               m .now refl i below
               ∙ rw (p .all i below (record { line = w .line; before = omega (arith, w .before); wrote = w .wrote }))
 
-      only : (i : ℕ) → i < 1048576 → marked after i ≡ true → Written lines (n + 1) (low + i)
+      only : (i : ℕ) → i < 229376 → marked after i ≡ true → Written lines (n + 1) (low + i)
       only i below full = go (marked before i) refl
         where
           go : (earlier : Bool) → marked before i ≡ earlier → Written lines (n + 1) (low + i)
@@ -72,13 +72,13 @@ module _ (lines : List (Option Record)) where
           go false e = record { line = n; before = omega arith; wrote = rw e at (sym (m .now refl i below) ∙ full) }
 
       never :
-          (i k : ℕ) → i < n → k < 1048576 → writes (getD lines i none) (low + k) ≡ true →
+          (i k : ℕ) → i < n → k < 229376 → writes (getD lines i none) (low + k) ≡ true →
           writes (getD lines n none) (low + k) ≡ true → ⊥
       never i k earlier below first second =
           let full = p .all k below (record { line = i; before = earlier; wrote = first }) in
           false≢true (sym (m .free refl k below second) ∙ full)
 
-      once : Once lines (n + 1) low (low + 1048576)
+      once : Once lines (n + 1) low (low + 229376)
       once i j a less last from to first second = go (eqb j n) refl
         where
           go : (newest : Bool) → eqb j n ≡ newest → ⊥
@@ -91,10 +91,6 @@ module _ (lines : List (Option Record)) where
       -- One line more, whose addresses in the window were not marked and now are.
       pub one-passed : Passed lines low (n + 1) after
       one-passed = record { once = once; all = all; only = only }
-
-as-parsed : (o : Option Record) (a : ℕ) → writes o a ≡ writesBy (parsedOf o) a
-as-parsed none a = refl
-as-parsed (some r) a = refl
 
 -- n lines are passed, and the next one begins at `at`.
 abbrev pub Reached : List ℕ → ℕ → ℕ → Type 0
@@ -110,9 +106,14 @@ module _ (text : List ℕ) (at next n : ℕ) (line : LineAt text at next) (reach
 
   -- which writes what the code has it write;
   pub writes-at :
-      {line : Parsed} → line ≡ parsedOf (recordOf (take (next - at) (drop at text))) → (a : ℕ) →
-      writes (getD (records text) n none) a ≡ writesBy line a
-  writes-at is a = as-parsed (getD (records text) n none) a ∙ rw (line-at, is)
+      {limit : ℕ} → AllRead (records text) limit → n < limit → (p : Parsed) → Spans (take (next - at) (drop at text)) p → (a : ℕ) →
+      writes (getD (records text) n none) a ≡ writesBy p a
+  writes-at all less p spans a = go (recordOf (take (next - at) (drop at text))) refl
+    where
+      go :
+          (o : Option Record) → recordOf (take (next - at) (drop at text)) ≡ o → writes (getD (records text) n none) a ≡ writesBy p a
+      go none e = absurd (all n less (line-at ∙ e))
+      go (some r) e = rw (line-at, e) (spans r e a)
 
   -- and the next lines begin behind it.
   pub lines-behind : Reached text next (n + 1)
@@ -127,20 +128,20 @@ lines-end text at n over reached =
 
 module _ (lines : List (Option Record)) {low n limit : ℕ} {marks : List ℕ} (p : Passed lines low n marks) where
   -- The limit is reached.
-  pub all-passed : n ≡ limit → FirstAgain lines limit low (low + 1048576) limit
+  pub all-passed : n ≡ limit → FirstAgain lines limit low (low + 229376) limit
   all-passed reached =
       record { within = omega arith; once = rw (← reached) (p .once); again = λ less. absurd (lt-irrefl _ less) }
 
   -- The line at hand is the first.
-  pub first-here : n < limit → Again lines n → FirstAgain lines limit low (low + 1048576) n
+  pub first-here : n < limit → Again lines n → FirstAgain lines limit low (low + 229376) n
   first-here less again = record { within = omega arith; once = p .once; again = λ _. again }
 
   -- There is no line more.
-  pub none-left : length lines ≤ n → FirstAgain lines limit low (low + 1048576) limit
+  pub none-left : length lines ≤ n → FirstAgain lines limit low (low + 229376) limit
   none-left over =
       record { within = omega arith; once = once; again = λ less. absurd (lt-irrefl _ less) }
     where
-      once : Once lines limit low (low + 1048576)
+      once : Once lines limit low (low + 229376)
       once i j a less last from to first second = go (ltb j n) refl
         where
           go : (there : Bool) → ltb j n ≡ there → ⊥

@@ -35,7 +35,7 @@ may-least Data least count e = leb-true least count e
 may-least Count least count e = let same : count ≡ least = eqb-true count least e in omega arith
 may-least Closing least count e = let same : count ≡ least = eqb-true count least e in omega arith
 
-length-for : (kind : Kind) (bytes : List ℕ) → lengthFor kind (length bytes) ≡ length (dataFor kind bytes)
+pub length-for : (kind : Kind) (bytes : List ℕ) → lengthFor kind (length bytes) ≡ length (dataFor kind bytes)
 length-for Header bytes = refl
 length-for Data bytes = refl
 length-for Count bytes = refl

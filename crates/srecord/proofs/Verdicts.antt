@@ -6,7 +6,7 @@ use mathlib.Core.Bool.{Bool, true, false, _||_, and-eq-true-iff, cond, or-true, 
 use mathlib.Core.Logic.{_↔_}
 use mathlib.Core.List.{List, [], _∷_}
 use mathlib.Core.Option.{Option, none, some}
-use Prim.Native.Nat.{ℕ, suc, _+_, _≤_, _<_}
+use Prim.Native.Nat.{ℕ, zero, suc, _+_, _≤_, _<_}
 use native.Mathlib.Omega.{arith}
 use native.Mathlib.Nat.{le-refl, lt-irrefl, not-suc-le-zero}
 use borrow.Author.Count.{below-more}
@@ -14,7 +14,7 @@ use borrow.Author.Tests.{eqb-true, leb-true, le-ltb, lt-ltb, ltb-false, ltb-true
 use lib.Dec.{eqb, leb, ltb}
 use lib.ListN.{getD, length}
 use Rattle.srecord.specs.Load.{Verdict, closed, dataLines, endOf, isData, judged, kindOf, share, verdict, writtenTwice}
-use Rattle.srecord.specs.Promises.{Again, Finding, FirstAgain, Once, finding, fresh, noted, summary, swept, writes}
+use Rattle.srecord.specs.Promises.{Again, AllRead, Finding, FirstAgain, Once, finding, fresh, noted, summary, swept, writes}
 use Rattle.srecord.specs.Records.{Record, address, dataOf}
 use Rattle.srecord.specs.declared.sweep.SoFar.{SoFar}
 use Rattle.srecord.proofs.Addresses.{inside, shared, shares}
@@ -32,6 +32,22 @@ passed-from size n s (some r ∷ rest) =
         (b : Bool) (number : ℕ) (f : Finding) → n + 1 ≤ f .passed → n ≤ cond b f (finding number (n + 1) n (s .ordered)) .passed
     go true number f h = omega arith
     go false number f h = le-refl n
+
+reads-from :
+    (size n : ℕ) (s : SoFar) (ls : List (Option Record)) (i : ℕ) → n + i < swept size n s ls .passed → getD ls i none ≡ none → ⊥
+unfolding swept
+reads-from size n s [] i less e = omega arith
+reads-from size n s (none ∷ rest) i less e = omega arith
+reads-from size n s (some r ∷ rest) zero less e = let z : _≡_ {A = ℕ} 0 1 = cc in omega arith
+reads-from size n s (some r ∷ rest) (suc i) less e =
+    let number = alone size r (s .closed) (s .count) in
+    go (eqb number 0) number _ (λ h. reads-from size (n + 1) (noted s (summary r)) rest i h e) less
+  where
+    go :
+        (b : Bool) (number : ℕ) (f : Finding) → (n + 1 + i < f .passed → ⊥) →
+        n + suc i < cond b f (finding number (n + 1) n (s .ordered)) .passed → ⊥
+    go true number f below less = below (omega arith)
+    go false number f below less = omega arith
 
 module _ (size : ℕ) (ls : List (Option Record)) where
   abbrev line : ℕ → Option Record
@@ -219,6 +235,10 @@ module _ (ls : List (Option Record)) (low high : ℕ) where
 module _ (size : ℕ) (ls : List (Option Record)) (f : Finding) (sweeps : f ≡ swept size 0 fresh ls) where
   from-first : (i : ℕ) → getD ls i none ≡ getD ls (0 + i) none
   from-first i = ap (λ (i : ℕ). getD ls i none) (omega arith)
+
+  -- The lines passed are records.
+  pub all-read : AllRead ls (f .passed)
+  all-read i less e = reads-from size 0 fresh ls i (rw (← sweeps) (omega arith)) e
 
   -- Of all addresses, wherever they lie.
   pub ordered-once : (high : ℕ) → f .ordered ≡ true → Once ls (f .passed) 0 high

@@ -27,7 +27,7 @@ use Rattle.srecord.specs.declared.records.Total.the-variants as total
 use Rattle.srecord.specs.declared.sweep.SoFar.{SoFar}
 use Rattle.srecord.specs.declared.sweep.Swept.{Swept}
 use Rattle.srecord.specs.Lines.{content, lines}
-use Rattle.srecord.specs.Records.{Opening, Record, address, bytesOf, dataOf, withBytes}
+use Rattle.srecord.specs.Records.{Opening, Record, address, bytesOf, dataOf, recordOf, withBytes}
 use Rattle.srecord.specs.Load.{endOf, isClosing, isCount, isData, kindOf, refusalNumber, sum}
 
 -- A line of a text: it begins at `at`, and the next one at `next`.
@@ -176,9 +176,9 @@ marked marks i = eqb (getD marks (i / 8) 0 / 2 ^ (i % 8) % 2) 1
 
 -- Marking the `wanted` ones of 1,048,576: whether one of them was marked already; if not, they are marked now, and no other.
 pub record Marks (before : List ℕ) (wanted : ℕ → Bool) (answer : Bool) (after : List ℕ) : Type 0 where
-  pub taken : answer ≡ true → (i : ℕ) × (i < 1048576) × (wanted i ≡ true) × (marked before i ≡ true)
-  pub free : answer ≡ false → (i : ℕ) → i < 1048576 → wanted i ≡ true → marked before i ≡ false
-  pub now : answer ≡ false → (i : ℕ) → i < 1048576 → marked after i ≡ (marked before i || wanted i)
+  pub taken : answer ≡ true → (i : ℕ) × (i < 229376) × (wanted i ≡ true) × (marked before i ≡ true)
+  pub free : answer ≡ false → (i : ℕ) → i < 229376 → wanted i ≡ true → marked before i ≡ false
+  pub now : answer ≡ false → (i : ℕ) → i < 229376 → marked after i ≡ (marked before i || wanted i)
 
 -- Whether an address is from `low` to below `high`.
 abbrev pub between : ℕ → ℕ → ℕ → Bool
@@ -203,3 +203,16 @@ PlacesData digits from n memory address after =
 abbrev pub placedBy : List ℕ → Option Record → List ℕ
 placedBy memory none = memory
 placedBy memory (some r) = sets memory (address r) (dataOf r)
+
+-- What a line writes, where it is a record; of another nothing is promised.
+abbrev pub Spans : List ℕ → Parsed → Type 0
+Spans line p = (r : Record) → recordOf line ≡ some r → (a : ℕ) → writes (some r) a ≡ writesBy p a
+
+abbrev pub OpenedSpans : Kind → ℕ → List ℕ → Parsed → Type 0
+OpenedSpans kind width line p =
+    (r : Record) → recordOf line ≡ some r → r .opening .kind ≡ kind → r .opening .width ≡ width → (a : ℕ) →
+    writes (some r) a ≡ writesBy p a
+
+-- The first `lines` lines are records.
+abbrev pub AllRead : List (Option Record) → ℕ → Type 0
+AllRead records lines = (i : ℕ) → i < lines → getD records i none ≡ none → ⊥

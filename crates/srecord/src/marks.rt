@@ -6,7 +6,7 @@ ghost use Rattle.srecord.specs.Promises.{Marks, between};
 
 // Marks those from `low` to below `high`, up to the first that is marked already, and answers whether there is one.
 pub fn mark(marks: &mut [u8], low: usize, high: usize) -> bool
-    requires { ⌜ (length (now marks) ≡ 131072) × (low ≤ high) × (high ≤ 1048576) ⌝ }
+    requires { ⌜ (length (now marks) ≡ 28672) × (low ≤ high) × (high ≤ 229376) ⌝ }
     ensures { λ b. ⌜ Marks (now (marks .entry)) (between low high) b (now (marks .exit)) ⌝ }
 {
     let mut i = low;

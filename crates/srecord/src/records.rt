@@ -150,3 +150,38 @@ pub fn parse(line: &[u8]) -> Parsed
         End::Missing => Parsed::Malformed,
     }
 }
+
+// What a line that is a record writes. Digits that do not say it are not looked at.
+pub fn span(line: &[u8]) -> Parsed
+    ensures { λ p. ⌜ Promises.Spans (now (line .entry)) p ⌝ }
+{
+    match openings::opening(line) {
+        Found::Opening(kind, width) => opened_span(kind, width, line),
+        Found::Unknown => Parsed::Malformed,
+    }
+}
+
+fn opened_span(kind: Kind, width: usize, line: &[u8]) -> Parsed
+    requires { ⌜ (width ≤ 4) × (2 ≤ length (now line)) ⌝ }
+    ensures { λ p. ⌜ Promises.OpenedSpans kind width (now (line .entry)) p ⌝ }
+{
+    if line.len() < 4 {
+        return Parsed::Malformed;
+    }
+    let count = byte(&line[2..], 0) as usize;
+    let end = 4 + 2 * count;
+    if line.len() < end {
+        return Parsed::Malformed;
+    }
+    if count < width + 1 {
+        return Parsed::Malformed;
+    }
+    let carried = count - (width + 1);
+    Parsed::Record(Summary {
+        kind: kind,
+        width: width,
+        address: number(&line[2..end], 1, width),
+        length: data_length(kind, carried as u32),
+        checks: false,
+    })
+}

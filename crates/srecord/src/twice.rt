@@ -8,14 +8,14 @@ ghost use mathlib.Core.Path.{_≡_};
 ghost use Prim.Native.Nat.{_+_, _≤_};
 ghost use lib.ListN.{length};
 ghost use Rattle.srecord.specs.Load.{records};
-ghost use Rattle.srecord.specs.Promises.{FirstAgain, Marks, writesIn};
+ghost use Rattle.srecord.specs.Promises.{AllRead, FirstAgain, Marks, writesIn};
 
-// The addresses that are marked at once: a bit each, 128 KiB.
-const WINDOW: usize = 1048576;
+// The addresses that are marked at once, a bit each: the marks stay on the stack, with all else in less than 32 KiB.
+const WINDOW: usize = 229376;
 
 // Marks the addresses that a line's data go to from `low` on, and answers whether one was marked already.
 fn mark_data(marks: &mut [u8], low: usize, r: Summary) -> bool
-    requires { ⌜ (length (now marks) ≡ 131072) × (low ≤ 16777216) ⌝ }
+    requires { ⌜ (length (now marks) ≡ 28672) × (low ≤ 16777216) ⌝ }
     ensures { λ b. ⌜ Marks (now (marks .entry)) (writesIn low (Parsed.Record r)) b (now (marks .exit)) ⌝ }
 {
     let begin = r.address as usize;
@@ -36,7 +36,7 @@ fn mark_data(marks: &mut [u8], low: usize, r: Summary) -> bool
 }
 
 fn mark_line(marks: &mut [u8], low: usize, line: Parsed) -> bool
-    requires { ⌜ (length (now marks) ≡ 131072) × (low ≤ 16777216) ⌝ }
+    requires { ⌜ (length (now marks) ≡ 28672) × (low ≤ 16777216) ⌝ }
     ensures { λ b. ⌜ Marks (now (marks .entry)) (writesIn low line) b (now (marks .exit)) ⌝ }
 {
     match line {
@@ -47,10 +47,10 @@ fn mark_line(marks: &mut [u8], low: usize, line: Parsed) -> bool
 
 // Of the first `limit` lines, the one that writes again an address in the window at `low`.
 fn again_in(text: &[u8], limit: usize, low: usize) -> usize
-    requires { ⌜ low ≤ 16777216 ⌝ }
-    ensures { λ n. ⌜ FirstAgain (records (now (text .entry))) limit low (low + 1048576) n ⌝ }
+    requires { ⌜ (low ≤ 16777216) × AllRead (records (now text)) limit ⌝ }
+    ensures { λ n. ⌜ FirstAgain (records (now (text .entry))) limit low (low + 229376) n ⌝ }
 {
-    let mut marks = [0u8; 131072];
+    let mut marks = [0u8; 28672];
     let mut n = 0;
     let mut at = 0;
     while at < text.len() {
@@ -58,7 +58,7 @@ fn again_in(text: &[u8], limit: usize, low: usize) -> usize
             return limit;
         }
         let next = lines::next(text, at);
-        let line = records::parse(&text[at..next]);
+        let line = records::span(&text[at..next]);
         if mark_line(&mut marks, low, line) {
             return n;
         }
@@ -70,7 +70,7 @@ fn again_in(text: &[u8], limit: usize, low: usize) -> usize
 
 // Window by window: each leaves fewer lines for the next ones to look at.
 pub fn first_again(text: &[u8], size: usize, limit: usize) -> usize
-    requires { ⌜ size ≤ 16777216 ⌝ }
+    requires { ⌜ (size ≤ 16777216) × AllRead (records (now text)) limit ⌝ }
     ensures { λ n. ⌜ FirstAgain (records (now (text .entry))) limit 0 size n ⌝ }
 {
     let mut first = limit;

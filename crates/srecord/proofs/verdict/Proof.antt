@@ -6,7 +6,7 @@ use borrow.Author.Needs.{needs}
 use borrow.Author.Tests.{le-ltb, lt-ltb}
 use Rattle.memory.specs.Lengths.{refusedLength}
 use Rattle.memory.proofs.Acceptance.{accepted-size, size-left}
-use Rattle.srecord.proofs.Verdicts.{ordered-once, verdict-found, verdict-once}
+use Rattle.srecord.proofs.Verdicts.{all-read, ordered-once, verdict-found, verdict-once}
 use Rattle.srecord.proofs.verdict.Statement.{statement}
 use Rattle.srecord.proofs.verdict.Tie as tie
 
@@ -23,7 +23,7 @@ verdict-spec =
     (λ c.
     let w : tie.After-sweep = search in
     rw (fits (search)) (sym (verdict-once _ _ _ (w .sweep .ensures) (ordered-once _ _ _ (w .sweep .ensures) _ (c .if3 .taken)))))
-    (λ c κs. accepted-size _ (fits (search)) .1)
+    (λ c κs. let w : tie.After-sweep = search in (accepted-size _ (fits (search)) .1, all-read _ _ _ (w .sweep .ensures)))
     (search needs)
     (λ c.
     let w : tie.After-sweep = search in

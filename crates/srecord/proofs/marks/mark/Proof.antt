@@ -14,7 +14,7 @@ use Rattle.srecord.proofs.marks.mark.Tie as tie
 
 abbrev Inv-loop : tie.InvT-loop
 Inv-loop marks₀ low high i₀ marks i =
-    (low ≤ i) × (i ≤ high) × (length marks ≡ 131072) × Marks marks₀ (between low i) false marks
+    (low ≤ i) × (i ≤ high) × (length marks ≡ 28672) × Marks marks₀ (between low i) false marks
 
 abbrev μ-loop : tie.MeasureT-loop
 μ-loop marks₀ low high i₀ marks i = high - i

@@ -2,16 +2,12 @@
 -- Assumes nothing.
 use mathlib.Core.Path.{_≡_, refl, sym, _∙_}
 use mathlib.Core.Option.{some}
-use mathlib.Core.List.{List}
-use Prim.Native.Nat.{ℕ, _-_, _≤_}
-use native.Mathlib.Nat.{le-refl}
 use native.Mathlib.Omega.{arith}
 use borrow.Author.Needs.{needs}
-use lib.ListN.{drop, length, length-drop, take}
-use lib.Seq.{take-all}
+use lib.ListN.{length-drop}
 use Rattle.srecord.specs.Promises.{summary}
 use Rattle.srecord.specs.Records.{Record, dataOf, recordOf}
-use Rattle.srecord.proofs.Placement.{data-pairs, room}
+use Rattle.srecord.proofs.Placement.{data-pairs, room, whole}
 use Rattle.srecord.proofs.Sweeping.{is-known, is-none}
 use Rattle.srecord.proofs.placing.place_line.Statement.{statement}
 use Rattle.srecord.proofs.placing.place_line.Tie as tie
@@ -20,10 +16,6 @@ use Rattle.srecord.proofs.placing.place_line.Tie as tie
 known : (c : tie.After-known-told) → let s : tie.Start = search in
     (x : Record) × (recordOf (s .args .line .now) ≡ some x) × (summary x ≡ c .before .r .given .0 .0)
 known c = is-known _ (sym (c .before .r .given .1) ∙ c .before .before .before .parse .ensures)
-
--- All that stands behind the opening.
-whole : (line : List ℕ) → take (length line - 2) (drop 2 line) ≡ drop 2 line
-whole line = take-all (length line - 2) (drop 2 line) (rw (length-drop 2 line) (le-refl (length line - 2)))
 
 pub place-line-spec : {M : Type 1} → statement M
 place-line-spec =

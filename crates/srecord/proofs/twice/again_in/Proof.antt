@@ -18,7 +18,7 @@ abbrev Inv-loop : tie.InvT-loop
 Inv-loop text limit low marks₀ n₀ at₀ marks n at =
     (at ≤ length text)
     × (n ≤ limit)
-    × (length marks ≡ 131072)
+    × (length marks ≡ 28672)
     × Reached text at n
     × Passed (records text) low n marks
 
@@ -26,7 +26,7 @@ abbrev μ-loop : tie.MeasureT-loop
 μ-loop text limit low marks₀ n₀ at₀ marks n at = length text - at
 
 loop-holds : tie.Need-loop-holds Inv-loop μ-loop
-loop-holds c = (omega arith, omega arith, length-replicate {A = ℕ} 131072 0, refl, none-passed _ _ 131072 (omega arith))
+loop-holds c = (omega arith, omega arith, length-replicate {A = ℕ} 28672 0, refl, none-passed _ _ 28672 (omega arith))
 
 -- What was marked is what line n writes of the window.
 line-marks :
@@ -36,10 +36,11 @@ line-marks :
     Marks (l .loop .marks) (λ i. writes (getD (records (a .text .now)) (l .loop .n) none) (a .low + i))
     (c .mark-line .result) (c .mark-line .last .0)
 line-marks c =
-    let p : tie.After-parse Inv-loop μ-loop = search in
+    let p : tie.After-span Inv-loop μ-loop = search in
+    let s : tie.Start Inv-loop μ-loop = search in
     let x : tie.After-next Inv-loop μ-loop = search in
     let l : tie.At-loop Inv-loop μ-loop = search in
-    marks-like _ (c .mark-line .ensures) (λ i below. writes-at _ _ _ _ (x .next .ensures) (l .loop .inv .3) (p .parse .ensures) _)
+    marks-like _ (c .mark-line .ensures) (λ i below. writes-at _ _ _ _ (x .next .ensures) (l .loop .inv .3) (s .pre .1) (omega arith) (p .span .result) (p .span .ensures) _)
 
 returns : tie.Need-returns Inv-loop μ-loop
 returns c =

@@ -1,6 +1,7 @@
 -- `first_again` has the first line that writes again an address below `low`, and goes on window by window.
 -- Assumes nothing.
 use Prim.Native.Nat.{_-_}
+use native.Mathlib.Omega.{arith}
 use borrow.Author.Needs.{needs}
 use Rattle.srecord.specs.Load.{records}
 use Rattle.srecord.specs.Promises.{FirstAgain}
@@ -17,6 +18,7 @@ abbrev μ-loop : tie.MeasureT-loop
 pub first-again-spec : {M : Type 1} → statement M
 first-again-spec =
     tie.close
-    (tie.spec Inv-loop μ-loop (λ c. first-nowhere _ _ 0) (search needs) (search needs) (search needs)
+    (tie.spec Inv-loop μ-loop (λ c. first-nowhere _ _ 0)
+    (λ c κs. let s : tie.Start Inv-loop μ-loop = search in (search needs, λ i less. s .pre .1 i (omega arith))) (search needs) (search needs)
     (λ c. first-in-both _ (c .before .before .loop .inv) (c .again-in .ensures))
     (λ c. first-in-part _ (c .before .loop .inv) (c .loop-test .left)))

@@ -25,12 +25,12 @@ starts c = ⊎-elim (λ w. omega arith) (λ w. omega arith) (c .if3 .came)
 
 ends :
     (c : tie.Joined4) → let s : tie.Start = c .before .before .before .before .before .before .before in
-    c .if4 .to ≡ min (end s - s .args .low) 1048576
+    c .if4 .to ≡ min (end s - s .args .low) 229376
 ends c = ⊎-elim (λ w. omega arith) (λ w. omega arith) (c .if4 .came)
 
 nothing :
     (c : tie.Start) → let a = c .args in
-    ((i : ℕ) → i < 1048576 → begin c ≤ a .low + i → end c ≤ a .low + i) →
+    ((i : ℕ) → i < 229376 → begin c ≤ a .low + i → end c ≤ a .low + i) →
     Marks (a .marks .now) (writesIn (a .low) (Record (a .r))) false (a .marks .now)
 nothing c beyond = marks-nothing _ _ (λ i below. between-none (begin c) (end c) _ (beyond i below))
 
