@@ -7,8 +7,8 @@ use Prim.Native.Nat.{ℕ, _≤_, _<_, max, min}
 use native.Mathlib.Omega.{arith}
 use borrow.Author.Tests.{le-leb, leb-true, lt-ltb, ltb-true}
 use lib.Dec.{leb, ltb}
-use Rattle.srecord.specs.Load.{endOf, share}
-use Rattle.srecord.specs.Promises.{writes}
+use Rattle.srecord.specs.Load.{endOf, share, writes}
+use Rattle.srecord.specs.Promises.{}
 use Rattle.srecord.specs.Records.{Record, address}
 
 pub inside : (r : Record) (a : ℕ) → writes (some r) a ≡ true → (address r ≤ a) × (a < endOf r)

@@ -42,7 +42,7 @@ module _ (text : List ℕ) (at : ℕ) where
   unfolding cut
   at-end inside =
       let some-left : length (begun text at (length text)) ≡ 0 → ⊥ =
-        rw (length-take-le (length text - at) (drop at text) (rw (lib.ListN.length-drop at text) (omega arith))) (λ none. omega arith) in
+      rw (length-take-le (length text - at) (drop at text) (rw (lib.ListN.length-drop at text) (omega arith))) (λ none. omega arith) in
       rw (drop-of-length-le text (native.Mathlib.Nat.le-refl (length text)), ne-eqb _ 0 some-left)
 
 module _ (line : List ℕ) where

@@ -11,7 +11,8 @@ use lib.ListN.{drop, length, length-append}
 use lib.Seq.{sets, sets-eq}
 use Rattle.memory.specs.Lengths.{first, lengthTests, refusedLength, test}
 use Rattle.memory.proofs.Acceptance.{none-before, same-before}
-use Rattle.srecord.specs.Export.{Exports, Places, exported, refusedExport}
+use Rattle.srecord.specs.Export.{Exports, exported, refusedExport}
+use Rattle.srecord.specs.Promises.{Places}
 use Rattle.srecord.specs.Load.{refusalNumber}
 use Rattle.srecord.specs.declared.Exported.{Exported}
 use Rattle.srecord.specs.declared.Refusal.{Refusal}

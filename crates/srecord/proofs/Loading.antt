@@ -13,9 +13,9 @@ use lib.Dec.{eqb}
 use lib.ListN.{getD, length, length-set, set}
 use lib.Seq.{getD-set-other, getD-set-same, length-sets, sets}
 use Rattle.memory.specs.Lengths.{first, refusedLength}
-use Rattle.srecord.specs.Load.{Loads, Verdict, endOf, judged, memoryAfter}
+use Rattle.srecord.specs.Load.{Loads, Verdict, endOf, judged, memoryAfter, writes}
 use Rattle.srecord.specs.Load.{placed, recordTests, records, share, verdict, verdictOn, writtenTwice}
-use Rattle.srecord.specs.Promises.{writes}
+use Rattle.srecord.specs.Promises.{}
 use Rattle.srecord.specs.Records.{Record, address, dataOf}
 use Rattle.srecord.specs.declared.Loaded.{Loaded}
 use Rattle.srecord.proofs.Addresses.{inside, shares, written}

@@ -14,11 +14,11 @@ use lib.ListN.{List·getD-eq-default, drop, getD, length}
 use lib.Seq.{drop-cons, drop-length}
 use Rattle.memory.specs.Access.{valueAt}
 use Rattle.memory.proofs.Bytes.{Bytes}
-use Rattle.text.specs.Reading.{ValueOfDigit, andThen, digitValue, isNumber, readOn, value}
+use Rattle.text.specs.Reading.{andThen, digitValue, isNumber, readOn, value}
 use Rattle.text.specs.declared.reading.Letters.the-variants.{EitherCase}
 use Rattle.text.specs.declared.reading.Read.{Read}
 use Rattle.text.specs.declared.reading.Read.the-variants.{Number, NotHex}
-use Rattle.text.proofs.Values.{digit-small}
+use Rattle.text.proofs.Values.{ValueOfDigit, digit-small}
 use Rattle.srecord.specs.Records.{before, bytesOf}
 use Rattle.srecord.specs.Load.{sum}
 use Rattle.srecord.specs.Promises.{ByteAt, pairAt, totalOf}
@@ -105,7 +105,7 @@ module _ (a b : ℕ) where
   pair-value {h} {l} high low n e =
       let v = by-values n e in
       let small = pair-small n e in
-      omega (arith, v .4, high .reads (v .0) (v .2), low .reads (v .1) (v .3))
+      omega (arith, v .4, high (v .0) (v .2), low (v .1) (v .3))
 
 pub bytes-small : (digits bytes : List ℕ) → bytesOf digits ≡ some bytes → Bytes bytes
 bytes-small digits bytes e i = go (ltb i (length bytes)) refl
@@ -145,7 +145,7 @@ pub one-pair :
     withRest good s (bytesOf (a ∷ b ∷ rest))
 unfolding bytesOf
 one-pair a b rest {h} {l} high low good s =
-    rw (of-two a b) (go (digitValue EitherCase a) (digitValue EitherCase b) (bytesOf rest) good (high .reads) (low .reads))
+    rw (of-two a b) (go (digitValue EitherCase a) (digitValue EitherCase b) (bytesOf rest) good high low)
   where
     go :
         (r t : Read) (o : Option (List ℕ)) (good : Bool) → ((d : ℕ) → r ≡ Number d → h ≡ d) → ((d : ℕ) → t ≡ Number d → l ≡ d) →

@@ -86,10 +86,11 @@ content-takes line c = go (endsIn 10 line) (endsIn 13 (withoutLast line))
         (e : ℕ) × (c ≡ take e line) × (e ≤ length line)
     go true true e =
         let same : withoutLast (withoutLast line) ≡ c = cc in
-        let shorter : length (withoutLast line) ≤ length line - 1 = rw (length-take (length line - 1) line) (omega arith) in
-        (length (withoutLast line) - 1,
-        sym same ∙ take-take (length (withoutLast line) - 1) (length line - 1) line (omega arith),
-        omega arith)
+        let shorter : length (withoutLast line) ≤ length line - 1 = rw (length-take (length line - 1) line) (omega arith) in (
+          length (withoutLast line) - 1,
+          sym same ∙ take-take (length (withoutLast line) - 1) (length line - 1) line (omega arith),
+          omega arith,
+        )
     go true false e = let same : withoutLast line ≡ c = cc in (length line - 1, sym same, omega arith)
     go false return e = absurd (never e)
 
@@ -114,9 +115,11 @@ of-bytes o (some bytes) r e = go (fits o bytes) refl e
         (t : Bool) → fits o bytes ≡ t → cond t (some (record { opening = o; bytes = bytes })) none ≡ some r →
         (some bytes ≡ some (r .bytes)) × (fits (r .opening) (r .bytes) ≡ true) × (o ≡ r .opening)
     go true f e =
-        let same : record { opening = o; bytes = bytes } ≡ r = cc in
-        (ap some (ap (λ (x : Record). x .bytes) same), sym (ap (λ (x : Record). fits (x .opening) (x .bytes)) same) ∙ f,
-        ap (λ (x : Record). x .opening) same)
+        let same : record { opening = o; bytes = bytes } ≡ r = cc in (
+          ap some (ap (λ (x : Record). x .bytes) same),
+          sym (ap (λ (x : Record). fits (x .opening) (x .bytes)) same) ∙ f,
+          ap (λ (x : Record). x .opening) same,
+        )
     go false f e = absurd (never e)
 
 module _ (line : List ℕ) (r : Record) (is : recordOf line ≡ some r) where
@@ -129,9 +132,13 @@ module _ (line : List ℕ) (r : Record) (is : recordOf line ≡ some r) where
       let c = of-ended (content line) r is in
       let t = content-takes line (c .0) (c .1) in
       let o = of-opened (openingOf (c .0)) (c .0) r (c .2) in
-      let b = of-bytes (o .0) (bytesOf (drop 2 (c .0))) r (o .2) in
-      (t .0, t .2, sym (ap (λ (l : List ℕ). bytesOf (drop 2 l)) (t .1)) ∙ b .0, b .1,
-      sym (ap openingOf (t .1)) ∙ o .1 ∙ ap some (b .2))
+      let b = of-bytes (o .0) (bytesOf (drop 2 (c .0))) r (o .2) in (
+        t .0,
+        t .2,
+        sym (ap (λ (l : List ℕ). bytesOf (drop 2 l)) (t .1)) ∙ b .0,
+        b .1,
+        sym (ap openingOf (t .1)) ∙ o .1 ∙ ap some (b .2),
+      )
 
   counted : (length (r .bytes) ≡ getD (r .bytes) 0 0 + 1) × (r .opening .width + 1 ≤ getD (r .bytes) 0 0)
   counted =
@@ -141,8 +148,13 @@ module _ (line : List ℕ) (r : Record) (is : recordOf line ≡ some r) where
   -- Opening, digits and end.
   digits-end : 2 * length (r .bytes) + 2 ≡ read .0
   digits-end =
-      omega (arith, twice-as-long (drop 2 (take (read .0) line)) (r .bytes) (read .2), length-drop 2 (take (read .0) line),
-      length-take-le (read .0) line (read .1), counted)
+      omega (
+        arith,
+        twice-as-long (drop 2 (take (read .0) line)) (r .bytes) (read .2),
+        length-drop 2 (take (read .0) line),
+        length-take-le (read .0) line (read .1),
+        counted,
+      )
 
   alike : (i : ℕ) → 2 + i < read .0 → getD (drop 2 line) i 0 ≡ getD (drop 2 (take (read .0) line)) i 0
   alike i inside = rw (getD-drop 2 line i 0, getD-drop 2 (take (read .0) line) i 0, getD-take (read .0) line (2 + i) 0 inside)
@@ -205,5 +217,5 @@ module _ (line : List ℕ) (r : Record) (is : recordOf line ≡ some r) where
     data-length =
         let least = r .opening .width + 1 in
         let all : length (carried r) ≡ count - least =
-          rw (← seen) (length-take-le (count - least) (drop least (r .bytes)) (rw (length-drop least (r .bytes)) (omega (arith, counted)))) in
+        rw (← seen) (length-take-le (count - least) (drop least (r .bytes)) (rw (length-drop least (r .bytes)) (omega (arith, counted)))) in
         rw (← all) (length-for (r .opening .kind) (carried r))

@@ -13,9 +13,9 @@ use lib.Seq.{drop-drop, getD-drop}
 use borrow.Author.Tests.{eqb-false, eqb-true, ltb-false, ltb-true}
 use Rattle.srecord.specs.declared.records.Parsed.{Parsed}
 use Rattle.srecord.specs.Lines.{cut, lines}
-use Rattle.srecord.specs.Load.{records}
+use Rattle.srecord.specs.Load.{records, writes}
 use Rattle.srecord.specs.Records.{Record, recordOf}
-use Rattle.srecord.specs.Promises.{Again, AllRead, FirstAgain, LineAt, Marks, Once, Spans, marked, writes, writesBy}
+use Rattle.srecord.specs.Promises.{Again, AllRead, FirstAgain, LineAt, Marks, Once, Spans, marked, writesBy}
 
 -- One of the first n lines writes an address.
 pub record Written (lines : List (Option Record)) (n a : ℕ) : Type 0 where

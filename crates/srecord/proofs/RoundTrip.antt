@@ -19,7 +19,7 @@ use Rattle.text.specs.Text.{ascii}
 use Rattle.srecord.specs.declared.Exported.{Exported}
 use Rattle.srecord.specs.declared.Loaded.{Loaded}
 use Rattle.srecord.specs.declared.Refusal.the-variants.{Accepted}
-use Rattle.srecord.specs.Export.{Exports, dataLines, exported, lineOf, refusedExport}
+use Rattle.srecord.specs.Export.{Exports, s3Lines, exported, lineOf, refusedExport}
 use Rattle.srecord.specs.Load.{Loads, Verdict, closed, endOf, isCount, judged, kindOf, memoryAfter, placed, recordTests, records}
 use Rattle.srecord.specs.Load.{refusalNumber, sum, verdict, verdictOn, writtenTwice}
 use Rattle.srecord.specs.Records.{Record, address, dataOf}
@@ -99,11 +99,11 @@ module _ (a : ℕ) (m : List ℕ) where
 
   first-line :
       (k : ℕ) → Bytes m →
-      records (lineOf (ascii "S3") a piece ++ dataLines k (a + 16) left ++ ending) ≡
-      some line ∷ records (dataLines k (a + 16) left ++ ending)
+      records (lineOf (ascii "S3") a piece ++ s3Lines k (a + 16) left ++ ending) ≡
+      some line ∷ records (s3Lines k (a + 16) left ++ ending)
   first-line k bytes =
-      ap records (append-assoc (lineOf (ascii "S3") a piece) (dataLines k (a + 16) left) ending)
-      ∙ data-line a piece (dataLines k (a + 16) left ++ ending) (bytes-take 16 m bytes) piece-short
+      ap records (append-assoc (lineOf (ascii "S3") a piece) (s3Lines k (a + 16) left) ending)
+      ∙ data-line a piece (s3Lines k (a + 16) left ++ ending) (bytes-take 16 m bytes) piece-short
 
   line-ends : a < 2 ^ 32 → endOf line ≡ a + length piece
   line-ends h = rw (address-back a piece h, data-kept a piece)
@@ -115,8 +115,8 @@ module _ (a : ℕ) (m : List ℕ) where
 lines-pass :
     (size n k a : ℕ) (earlier : List Record) (m : List ℕ) → size < 2 ^ 32 → Bytes m → (0 < length m → a + length m ≤ size) →
     closed earlier ≡ false → Below a earlier → k ≡ (length m + 15) / 16 →
-    judged size n earlier (records (dataLines k a m ++ ending)) ≡ verdict 0 0
-unfolding dataLines closed
+    judged size n earlier (records (s3Lines k a m ++ ending)) ≡ verdict 0 0
+unfolding s3Lines closed
 lines-pass size n zero a earlier m long bytes inside unclosed below e = closes size n earlier unclosed
 lines-pass size n (suc k) a earlier m long bytes inside unclosed below e =
     let r = line a m in
@@ -145,8 +145,8 @@ none-left (x ∷ q) m e h = absurd (omega arith)
 -- The data of the lines, one behind the other, take the place of what stood there.
 lines-placed :
     (size k a : ℕ) (m p q : List ℕ) → size < 2 ^ 32 → Bytes m → (0 < length m → (length p ≡ a) × (a + length m ≤ size)) →
-    length q ≡ length m → k ≡ (length m + 15) / 16 → placed (p ++ q) (records (dataLines k a m ++ ending)) ≡ p ++ m
-unfolding dataLines placed
+    length q ≡ length m → k ≡ (length m + 15) / 16 → placed (p ++ q) (records (s3Lines k a m ++ ending)) ≡ p ++ m
+unfolding s3Lines placed
 lines-placed size zero a m p q long bytes inside e k =
     ap (placed (p ++ q)) closing-line ∙ ap (λ (x : List ℕ). p ++ x) (none-left q m e (omega arith))
 lines-placed size (suc k) a m p q long bytes inside e n =
@@ -158,7 +158,7 @@ lines-placed size (suc k) a m p q long bytes inside e n =
     let over : sets (p ++ q) (address (line a m)) (dataOf (line a m)) ≡ p ++ d ++ drop (length d) q =
     rw (address-back a d small, data-kept a d) (overwritten p q d (now .0) (omega arith)) in
     ap (placed (p ++ q)) (first-line a m k bytes)
-    ∙ ap (λ (l : List ℕ). placed l (records (dataLines k (a + 16) rest ++ ending))) over
+    ∙ ap (λ (l : List ℕ). placed l (records (s3Lines k (a + 16) rest ++ ending))) over
     ∙ lines-placed size k (a + 16) rest (p ++ d) (drop (length d) q) long (bytes-drop 16 m bytes)
     (λ (some : 0 < length rest). (
       rw (length-append p d) (omega (arith, now .0, held, length-drop 16 m)),

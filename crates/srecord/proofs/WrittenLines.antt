@@ -12,7 +12,8 @@ use lib.Dec.{ltb}
 use lib.ListN.{drop, getD, length, length-append, length-drop, length-take, set, take, take-append-drop}
 use lib.Seq.{drop-drop, sets, take-all, take-length}
 use Rattle.text.specs.Text.{ascii, lineFeed}
-use Rattle.srecord.specs.Export.{Places, checkByte, counted, dataLines, exported, lineOf, pairs}
+use Rattle.srecord.specs.Export.{checkByte, counted, s3Lines, exported, lineOf, pairs}
+use Rattle.srecord.specs.Promises.{Places}
 use Rattle.srecord.specs.Load.{sum}
 use Rattle.srecord.proofs.WrittenPairs.{behind, both, pairs-append, pairs-length, sum-append}
 
@@ -87,18 +88,18 @@ line-placed b at start address bytes l h e p q r =
 
 -- The data lines from an address on.
 abbrev pub linesFrom : List ℕ → ℕ → List ℕ
-linesFrom memory at = dataLines ((length memory - at + 15) / 16) at (drop at memory)
+linesFrom memory at = s3Lines ((length memory - at + 15) / 16) at (drop at memory)
 
 pub next-line :
     (memory : List ℕ) (at : ℕ) → at < length memory →
     linesFrom memory at ≡ lineOf (ascii "S3") at (take 16 (drop at memory)) ++ linesFrom memory (at + 16)
-unfolding dataLines
+unfolding s3Lines
 next-line memory at inside =
     let more : (length memory - at + 15) / 16 ≡ suc ((length memory - (at + 16) + 15) / 16) = omega arith in
     rw (more, drop-drop 16 at memory)
 
 pub last-line : (memory : List ℕ) (at : ℕ) → length memory ≤ at → linesFrom memory at ≡ []
-unfolding dataLines
+unfolding s3Lines
 last-line memory at over = let none : (length memory - at + 15) / 16 ≡ 0 = omega arith in rw none
 
 -- A line takes 16 bytes, or those that are left.
@@ -148,15 +149,15 @@ line-done memory b at place {k} inside e done =
     )
 
 pub lines-length :
-    (n address : ℕ) (memory : List ℕ) → n ≡ (length memory + 15) / 16 → length (dataLines n address memory) ≡ 2 * length memory + 15 * n
-unfolding dataLines
+    (n address : ℕ) (memory : List ℕ) → n ≡ (length memory + 15) / 16 → length (s3Lines n address memory) ≡ 2 * length memory + 15 * n
+unfolding s3Lines
 lines-length zero address memory e = omega arith
 lines-length (suc n) address memory e =
     let line = lineOf (ascii "S3") address (take 16 memory) in
     let whole : length (take 16 memory) + length (drop 16 memory) ≡ length memory =
     sym (length-append (take 16 memory) (drop 16 memory)) ∙ ap length (take-append-drop 16 memory) in
     let fewer : n ≡ (length (drop 16 memory) + 15) / 16 = omega (arith, length-drop 16 memory) in
-    length-append line (dataLines n (address + 16) (drop 16 memory))
+    length-append line (s3Lines n (address + 16) (drop 16 memory))
     ∙ rw (line-length (ascii "S3") address (take 16 memory), lines-length n (address + 16) (drop 16 memory) fewer)
     (omega (arith, whole))
 
@@ -165,5 +166,5 @@ pub exported-length : (memory : List ℕ) → length (exported memory) ≡ 2 * l
 unfolding exported
 exported-length memory =
     let n = (length memory + 15) / 16 in
-    length-append (dataLines n 0 memory) (lineOf (ascii "S7") 0 [])
+    length-append (s3Lines n 0 memory) (lineOf (ascii "S7") 0 [])
     ∙ rw (lines-length n 0 memory refl, line-length (ascii "S7") 0 [])

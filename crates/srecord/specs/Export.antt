@@ -5,7 +5,6 @@ use mathlib.Core.List.{List, [], _∷_, _++_}
 use Prim.Native.Nat.{ℕ, zero, suc, _+_, _-_, _/_, _%_}
 use lib.Dec.{eqb, ltb}
 use lib.ListN.{drop, length, take}
-use lib.Seq.{sets}
 use Rattle.memory.specs.Lengths.{first, lengthTests, test}
 use Rattle.text.specs.Text.{ascii, hexIn, lineFeed}
 use Rattle.text.specs.declared.digits.Case.the-variants.{Upper}
@@ -36,12 +35,12 @@ lineOf start address bytes =
     start ++ pairs (all ++ (checkByte all ∷ [])) ++ lineFeed
 
 -- "S3 lines of 16 bytes (the last may be shorter)": n of them, from an address on.
-unfoldable pub dataLines : ℕ → ℕ → List ℕ → List ℕ
-dataLines zero address memory = []
-dataLines (suc n) address memory = lineOf (ascii "S3") address (take 16 memory) ++ dataLines n (address + 16) (drop 16 memory)
+unfoldable pub s3Lines : ℕ → ℕ → List ℕ → List ℕ
+s3Lines zero address memory = []
+s3Lines (suc n) address memory = lineOf (ascii "S3") address (take 16 memory) ++ s3Lines n (address + 16) (drop 16 memory)
 
 abbrev pub memoryLines : List ℕ → List ℕ
-memoryLines memory = dataLines ((length memory + 15) / 16) 0 memory
+memoryLines memory = s3Lines ((length memory + 15) / 16) 0 memory
 
 -- "and a closing S7 with address 0"
 unfoldable pub exported : List ℕ → List ℕ
@@ -58,8 +57,3 @@ pub record Exports (memory buffer : List ℕ) (answer : Exported) (after : List 
   pub refuses : refusalNumber (answer .refusal) ≡ refusedExport memory buffer
   pub counts : answer .length ≡ cond (eqb (refusedExport memory buffer) 0) (length (exported memory)) 0
   pub leaves : after ≡ cond (eqb (refusedExport memory buffer) 0) (exported memory ++ drop (length (exported memory)) buffer) buffer
-
--- What the inner functions that write promise: the text from a place on, every other byte as it was, and the place behind the text.
-pub record Places (text before : List ℕ) (at : ℕ) (after : List ℕ) (end : ℕ) : Type 0 where
-  pub places : after ≡ sets before at text
-  pub ends : end ≡ at + length text

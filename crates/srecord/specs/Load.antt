@@ -4,7 +4,7 @@ use mathlib.Core.Bool.{Bool, true, false, _&&_, _||_, cond, not}
 use mathlib.Core.List.{List, [], _∷_, map}
 use mathlib.Core.Option.{Option, none, some}
 use Prim.Native.Nat.{ℕ, _+_, _%_, max, min}
-use lib.Dec.{eqb, ltb}
+use lib.Dec.{eqb, leb, ltb}
 use lib.ListN.{length}
 use lib.Seq.{sets}
 use Rattle.memory.specs.Lengths.{Test, first, refusedLength, test}
@@ -57,6 +57,11 @@ kindOf r = r .opening .kind
 -- The address behind the last byte that a line writes.
 abbrev pub endOf : Record → ℕ
 endOf r = address r + length (dataOf r)
+
+-- Whether a line writes an address.
+abbrev pub writes : Option Record → ℕ → Bool
+writes none a = false
+writes (some r) a = leb (address r) a && ltb a (endOf r)
 
 -- Whether the records are closed: one of them is an S7, S8 or S9 line.
 unfoldable pub closed : List Record → Bool

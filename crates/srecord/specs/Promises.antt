@@ -28,7 +28,7 @@ use Rattle.srecord.specs.declared.sweep.SoFar.{SoFar}
 use Rattle.srecord.specs.declared.sweep.Swept.{Swept}
 use Rattle.srecord.specs.Lines.{content, lines}
 use Rattle.srecord.specs.Records.{Opening, Record, address, bytesOf, dataOf, recordOf, withBytes}
-use Rattle.srecord.specs.Load.{endOf, isClosing, isCount, isData, kindOf, refusalNumber, sum}
+use Rattle.srecord.specs.Load.{isClosing, isCount, isData, kindOf, refusalNumber, sum, writes}
 
 -- A line of a text: it begins at `at`, and the next one at `next`.
 pub record LineAt (text : List ℕ) (at next : ℕ) : Type 0 where
@@ -145,11 +145,6 @@ fresh = record { count = 0; closed = false; top = 0; ordered = true }
 abbrev pub findingOf : Swept → Finding
 findingOf s = finding (refusalNumber (s .refusal)) (s .line) (s .passed) (s .ordered)
 
--- Whether a line writes an address.
-abbrev pub writes : Option Record → ℕ → Bool
-writes none a = false
-writes (some r) a = leb (address r) a && ltb a (endOf r)
-
 -- Of the first `lines` lines no two write one address from `low` to below `high`.
 abbrev pub Once : List (Option Record) → ℕ → ℕ → ℕ → Type 0
 Once records lines low high =
@@ -216,3 +211,8 @@ OpenedSpans kind width line p =
 -- The first `lines` lines are records.
 abbrev pub AllRead : List (Option Record) → ℕ → Type 0
 AllRead records lines = (i : ℕ) → i < lines → getD records i none ≡ none → ⊥
+
+-- What the functions that write a text promise: the text from a place on, every other byte as it was, and the place behind the text.
+pub record Places (text before : List ℕ) (at : ℕ) (after : List ℕ) (end : ℕ) : Type 0 where
+  pub places : after ≡ sets before at text
+  pub ends : end ≡ at + length text

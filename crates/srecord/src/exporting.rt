@@ -10,8 +10,9 @@ ghost use lib.Seq.{sets};
 ghost use Rattle.text.specs.Text as Text;
 ghost use Rattle.text.specs.declared.digits.Case.the-variants.{Upper};
 ghost use Rattle.srecord.specs.Export as Export;
-ghost use Rattle.srecord.specs.Export.{Exports, Places, lineOf, memoryLines};
+ghost use Rattle.srecord.specs.Export.{Exports, lineOf, memoryLines};
 ghost use Rattle.srecord.specs.Load as Load;
+ghost use Rattle.srecord.specs.Promises.{Places};
 
 // A digit's character without a branch, since the digits of a memory mislead a processor that guesses: between 9 and A stand seven others.
 fn digit(d: u8) -> u8

@@ -7,12 +7,19 @@ ghost use Rattle.srecord.specs.Promises.{begins, foundOf};
 ghost use Rattle.srecord.specs.Records.{openingOf};
 
 pub const S0: [u8; 2] = *b"S0";
+
 pub const S1: [u8; 2] = *b"S1";
+
 pub const S2: [u8; 2] = *b"S2";
+
 pub const S3: [u8; 2] = *b"S3";
+
 pub const S5: [u8; 2] = *b"S5";
+
 pub const S7: [u8; 2] = *b"S7";
+
 pub const S8: [u8; 2] = *b"S8";
+
 pub const S9: [u8; 2] = *b"S9";
 
 // What a line is for.

@@ -57,7 +57,10 @@ fn added(digits: &[u8]) -> Total
         let high = digits[2 * i];
         let low = digits[2 * i + 1];
         good = good & text::is_digit(high) & text::is_digit(low);
-        sum = wrapping_add_u32(sum, text::value_of_digit(high) * 16 + text::value_of_digit(low));
+        sum = wrapping_add_u32(
+            sum,
+            text::value_of_digit(high) * 16 + text::value_of_digit(low),
+        );
         i += 1;
     }
     if good {

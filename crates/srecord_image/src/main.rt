@@ -23,7 +23,10 @@ fn main() {
 
 fn print_image(text: &[u8], memory: &mut [u8]) {
     if text.len() > LONGEST {
-        io::write_all(STDOUT_FILENO, b"The text is longer than 1,048,576 bytes, the most that is taken.\n");
+        io::write_all(
+            STDOUT_FILENO,
+            b"The text is longer than 1,048,576 bytes, the most that is taken.\n",
+        );
         return;
     }
     let answer = srecord::load(text, memory);

@@ -10,7 +10,7 @@ use borrow.Author.Tests.{le-leb, leb-true, le-ltb, lt-leb, lt-ltb, ltb-false, lt
 use lib.Dec.{leb, ltb}
 use lib.ListN.{drop, getD, length, take}
 use lib.Seq.{drop-cons}
-use Rattle.text.specs.Reading.{andThen, between, digitValue, cutToLong, isNumber, readOn, value}
+use Rattle.text.specs.Reading.{FromLowBits, andThen, between, digitValue, cutToLong, isNumber, readOn, value}
 use Rattle.text.specs.Text.{digit, hexIn}
 use Rattle.text.specs.declared.digits.Case.{Case}
 use Rattle.text.specs.declared.digits.Case.the-variants.{Lower, Upper}
@@ -183,7 +183,7 @@ one-of-three byte = go (between 48 57 byte) (between 97 102 byte) (between 65 70
     go false false false = refl
 
 -- A digit's value from the low bits of its character.
-pub by-low-bits : (byte d : ℕ) → digitValue EitherCase byte ≡ Number d → byte % 16 + 9 * (byte / 64) ≡ d
+by-low-bits : (byte d : ℕ) → digitValue EitherCase byte ≡ Number d → byte % 16 + 9 * (byte / 64) ≡ d
 unfolding digitValue
 by-low-bits byte d =
     picks (λ h. h ≡ Number d → byte % 16 + 9 * (byte / 64) ≡ d) (between 48 57 byte)
@@ -193,3 +193,10 @@ by-low-bits byte d =
     (picks (λ h. h ≡ Number d → byte % 16 + 9 * (byte / 64) ≡ d) (between 65 70 byte)
     (λ r e. let s : byte - 55 ≡ d = cc in omega (arith, bounds 65 70 byte r))
     (λ e. let never : _≡_ {A = ℕ} 0 1 = cc in omega arith)))
+
+-- A number that is a digit's value, where the byte is a digit.
+abbrev pub ValueOfDigit : ℕ → ℕ → Type 0
+ValueOfDigit byte n = (d : ℕ) → digitValue EitherCase byte ≡ Number d → n ≡ d
+
+pub value-of-digit : {byte n : ℕ} → FromLowBits byte n → ValueOfDigit byte n
+value-of-digit {byte} low d is = low .gives ∙ by-low-bits byte d is

@@ -2,7 +2,7 @@
 use mathlib.Core.Path.{_≡_}
 use mathlib.Core.Bool.{Bool, true, false, _&&_, cond}
 use mathlib.Core.List.{List, [], _∷_}
-use Prim.Native.Nat.{ℕ, _+_, _-_, _*_, _%_, _^_, _<_}
+use Prim.Native.Nat.{ℕ, _+_, _-_, _*_, _/_, _%_, _^_, _<_}
 use lib.Dec.{leb, ltb}
 use lib.ListN.{drop, length, take}
 use Rattle.text.specs.declared.reading.Letters.{Letters}
@@ -28,9 +28,9 @@ abbrev pub isNumber : Read → Bool
 isNumber (Number n) = true
 isNumber NotHex = false
 
--- What is promised of a digit's value: nothing of a byte that is none, but that it is small.
-pub record ValueOfDigit (byte n : ℕ) : Type 0 where
-  pub reads : (d : ℕ) → digitValue EitherCase byte ≡ Number d → n ≡ d
+-- What is promised of a digit's value: the low four bits of its character, and 9 more for a letter, which bit 6 tells from a figure.
+pub record FromLowBits (byte n : ℕ) : Type 0 where
+  pub gives : n ≡ byte % 16 + 9 * (byte / 64)
   pub small : n < 64
 
 abbrev pub andThen : Read → (ℕ → Read) → Read

@@ -76,7 +76,7 @@ pub fn is_digit(byte: u8) -> bool
 }
 
 pub fn value_of_digit(byte: u8) -> u32
-    ensures { λ n. ⌜ Reading.ValueOfDigit byte n ⌝ }
+    ensures { λ n. ⌜ Reading.FromLowBits byte n ⌝ }
 {
     byte as u32 % 16 + 9 * (byte as u32 / 64)
 }

@@ -29,7 +29,7 @@ place-data-spec =
       search needs,
       rw (c .before .before .put .ensures, length-set) (now .inv .1),
       rw (c .before .before .put .ensures)
-      (one-placed (a .digits .now) (a .from) (a .n) (a .memory .now) (a .address) (now .i) (now .memory) (now .inv .2) (b .byte .result) (omega arith) (b .byte .ensures)),
+          (one-placed (a .digits .now) (a .from) (a .n) (a .memory .now) (a .address) (now .i) (now .memory) (now .inv .2) (b .byte .result) (omega arith) (b .byte .ensures)),
     ))
     (search needs)
     (λ c. let a = c .before .before .before .before .args in let now = c .before .loop in

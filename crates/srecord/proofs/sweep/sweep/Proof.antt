@@ -48,9 +48,9 @@ loop-again c =
       omega (arith, line .onward),
       rw (c .noted .ensures) (omega (arith, counts-on (now .s) (c .before .before .before .before .before .r .given .0 .0))),
       rw (c .noted .ensures)
-      (now .inv .3
-      ∙ passes (a .size) (now .n) (now .s) (a .text .now) (now .at) _ line read (c .before .before .before .single .ensures)
-      (sym (c .before .before .number .ensures) ∙ c .before .if1 .left)),
+          (now .inv .3
+          ∙ passes (a .size) (now .n) (now .s) (a .text .now) (now .at) _ line read (c .before .before .before .single .ensures)
+          (sym (c .before .before .number .ensures) ∙ c .before .if1 .left)),
     )
 
 returns-3 : tie.Need-returns-3 Inv-loop μ-loop

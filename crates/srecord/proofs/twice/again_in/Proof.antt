@@ -6,8 +6,8 @@ use Prim.Native.Nat.{ℕ, _+_, _-_, _≤_}
 use native.Mathlib.Omega.{arith}
 use lib.ListN.{getD, length, length-replicate}
 use borrow.Author.Needs.{needs}
-use Rattle.srecord.specs.Load.{records}
-use Rattle.srecord.specs.Promises.{Marks, writes}
+use Rattle.srecord.specs.Load.{records, writes}
+use Rattle.srecord.specs.Promises.{Marks}
 use Rattle.srecord.proofs.Marking.{marks-like}
 use Rattle.srecord.proofs.Repeats.{Passed, Reached, all-passed, first-here, lines-behind, lines-end, marked-again}
 use Rattle.srecord.proofs.Repeats.{none-left, none-passed, one-passed, writes-at}
