@@ -56,6 +56,12 @@ module _ (memory buffer : List ℕ) where
       refusedExport memory buffer ≡ cond (ltb (length buffer) (2 * length memory + 15 * ((length memory + 15) / 16) + 15)) 16 0
   room-exactly e = room-decides e ∙ ap (λ (n : ℕ). cond (ltb (length buffer) n) 16 0) (exported-length memory)
 
+  -- The same of any answer that the promise allows.
+  pub room-told :
+      (answer : Exported) (after : List ℕ) → Exports memory buffer answer after → refusedLength (length memory) ≡ 0 →
+      refusalNumber (answer .refusal) ≡ cond (ltb (length buffer) (2 * length memory + 15 * ((length memory + 15) / 16) + 15)) 16 0
+  room-told answer after done e = done .refuses ∙ room-exactly e
+
   pub room-refuses : refusedLength (length memory) ≡ 0 → length buffer < length (exported memory) → 16 ≡ refusedExport memory buffer
   room-refuses e less = sym (room-decides e ∙ ap (λ (t : Bool). cond t 16 0) (lt-ltb _ _ less))
 

@@ -13,7 +13,7 @@ use lib.Dec.{eqb}
 use lib.ListN.{getD, length, length-set, set}
 use lib.Seq.{getD-set-other, getD-set-same, length-sets, sets}
 use Rattle.memory.specs.Lengths.{first, refusedLength}
-use Rattle.srecord.specs.Load.{Loads, Verdict, endOf, judged, memoryAfter, writes}
+use Rattle.srecord.specs.Load.{Loads, Verdict, endOf, judged, memoryAfter, refusalNumber, writes}
 use Rattle.srecord.specs.Load.{placed, recordTests, records, share, verdict, verdictOn, writtenTwice}
 use Rattle.srecord.specs.Promises.{}
 use Rattle.srecord.specs.Records.{Record, address, dataOf}
@@ -33,6 +33,12 @@ module _ (text memory : List ℕ) where
 
   pub refused-changes-nothing : (verdictOn text (length memory) .number ≡ 0 → ⊥) → memoryAfter text memory ≡ memory
   refused-changes-nothing h = rw (ne-eqb (verdictOn text (length memory) .number) 0 h)
+
+  -- The same of any answer that the promise allows.
+  pub refused-load-changes-nothing :
+      (answer : Loaded) (after : List ℕ) → Loads text memory answer after → (refusalNumber (answer .refusal) ≡ 0 → ⊥) → after ≡ memory
+  refused-load-changes-nothing answer after done refused =
+      done .leaves ∙ refused-changes-nothing (λ e. refused (ap (λ (v : Verdict). v .number) (done .answers) ∙ e))
 
 -- Bytes behind each other: those at other addresses stay, and the others are theirs.
 kept-beside :
@@ -141,6 +147,11 @@ module _ (text memory : List ℕ) where
       go : (accepted : Bool) → getD (cond accepted (placed memory (records text)) memory) a 0 ≡ getD memory a 0
       go true = kept a memory (records text) (λ i h. true≢false (sym h ∙ unnamed i))
       go false = refl
+
+  pub unnamed-keeps-in-load :
+      (answer : Loaded) (after : List ℕ) → Loads text memory answer after → (a : ℕ) →
+      ((i : ℕ) → writes (getD (records text) i none) a ≡ false) → getD after a 0 ≡ getD memory a 0
+  unnamed-keeps-in-load answer after done a unnamed = rw (done .leaves) (unnamed-keeps a unnamed)
 
   -- A text that is accepted: its memory has an accepted length, and each line passes.
   pub lines-accepted :

@@ -1,4 +1,5 @@
--- What `export` writes, `load` takes back: into every memory of the same length, to the same bytes.
+-- What `export` writes, `load` takes back: into every memory of the same length, to the same bytes. (`Bytes`: each is below 256, as in
+-- every lent memory.)
 -- Assumes nothing.
 use mathlib.Core.Path.{_≡_, refl, sym, ap, _∙_, subst}
 use mathlib.Core.Bool.{Bool, true, false, _&&_, cond}

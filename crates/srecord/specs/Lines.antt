@@ -6,7 +6,8 @@ use Prim.Native.Nat.{ℕ, _-_}
 use lib.Dec.{eqb}
 use lib.ListN.{getD, length, take}
 
--- A text cut behind each line feed; `begun` is what stands before it since the last one. What no line feed ends is a line too.
+-- A text cut behind each line feed; `begun` are the bytes of the present line that were passed already. What no line feed ends is a line
+-- too.
 unfoldable pub cut : List ℕ → List ℕ → List (List ℕ)
 cut begun [] = cond (eqb (length begun) 0) [] (begun ∷ [])
 cut begun (byte ∷ rest) = cond (eqb byte 10) ((begun ++ (byte ∷ [])) ∷ cut [] rest) (cut (begun ++ (byte ∷ [])) rest)

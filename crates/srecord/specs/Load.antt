@@ -58,7 +58,7 @@ kindOf r = r .opening .kind
 abbrev pub endOf : Record → ℕ
 endOf r = address r + length (dataOf r)
 
--- Whether a line writes an address.
+-- Whether a line writes an address: in this word the theorems speak of bytes that lines name.
 abbrev pub writes : Option Record → ℕ → Bool
 writes none a = false
 writes (some r) a = leb (address r) a && ltb a (endOf r)
@@ -93,7 +93,7 @@ recordTests size earlier r =
     ∷ test 14 (isCount (kindOf r) && not (eqb (address r) (dataLines earlier)))
     ∷ []
 
--- The refusal of a text, and the line that it is about; 0 where it is about none.
+-- The refusal's number, 0 where the text is accepted, and the line that it is about, 0 where it is about none.
 pub record Verdict : Type 0 where
   pub number : ℕ
   pub line : ℕ

@@ -1,4 +1,4 @@
--- What the inner functions promise.
+-- What the inner functions promise. `Loads` and `Exports` do not use it: none of it need be believed.
 use mathlib.Core.Path.{_≡_}
 use mathlib.Core.Bool.{Bool, true, false, _&&_, _||_, cond, not}
 use mathlib.Core.List.{List, [], _∷_}
@@ -159,7 +159,8 @@ pub record Again (records : List (Option Record)) (line : ℕ) : Type 0 where
   pub first : writes (getD records earlier none) address ≡ true
   pub second : writes (getD records line none) address ≡ true
 
--- The first of `limit` lines that writes an address from `low` to below `high` again; `limit` where none does.
+-- A line, of the first `limit`, that writes an address again, and before which none from `low` to below `high` is written twice; `limit`
+-- where there is no such line.
 pub record FirstAgain (records : List (Option Record)) (limit low high line : ℕ) : Type 0 where
   pub within : line ≤ limit
   pub once : Once records line low high
@@ -169,7 +170,7 @@ pub record FirstAgain (records : List (Option Record)) (limit low high line : �
 unfoldable pub marked : List ℕ → ℕ → Bool
 marked marks i = eqb (getD marks (i / 8) 0 / 2 ^ (i % 8) % 2) 1
 
--- Marking the `wanted` ones of 1,048,576: whether one of them was marked already; if not, they are marked now, and no other.
+-- Marking the `wanted` ones of a window's 229,376 addresses: whether one of them was marked already; if not, they are marked now, and no other.
 pub record Marks (before : List ℕ) (wanted : ℕ → Bool) (answer : Bool) (after : List ℕ) : Type 0 where
   pub taken : answer ≡ true → (i : ℕ) × (i < 229376) × (wanted i ≡ true) × (marked before i ≡ true)
   pub free : answer ≡ false → (i : ℕ) → i < 229376 → wanted i ≡ true → marked before i ≡ false

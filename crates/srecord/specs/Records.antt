@@ -16,7 +16,7 @@ use Rattle.srecord.specs.declared.openings.Kind.{Kind}
 use Rattle.srecord.specs.declared.openings.Kind.the-variants.{Header, Data, Count, Closing}
 use Rattle.srecord.specs.Lines.{content}
 
--- One of the "eight byte strings" that open a line, what such a line is for, and the bytes of its address.
+-- One of the "eight byte strings" that open a line, what such a line is for, and how many bytes its address has.
 pub record Opening : Type 0 where
   pub start : List ℕ
   pub kind : Kind
@@ -43,7 +43,7 @@ same [] (b ∷ y) = false
 same (a ∷ x) [] = false
 same (a ∷ x) (b ∷ y) = eqb a b && same x y
 
--- The one of the openings that begins so.
+-- The opening whose two bytes these are.
 abbrev pub among : List Opening → List ℕ → Option Opening
 among [] start = none
 among (o ∷ rest) start = cond (same start (o .start)) (some o) (among rest start)
@@ -51,6 +51,7 @@ among (o ∷ rest) start = cond (same start (o .start)) (some o) (among rest sta
 unfoldable pub openingOf : List ℕ → Option Opening
 openingOf line = among openings (take 2 line)
 
+-- A byte in front of others, where all of them were read.
 abbrev pub before : Read → Option (List ℕ) → Option (List ℕ)
 before (Number byte) (some bytes) = some (byte ∷ bytes)
 before (Number byte) none = none
@@ -98,7 +99,7 @@ recordOf line = ended (content line)
 abbrev pub address : Record → ℕ
 address r = valueAt (r .opening .width) (r .bytes) 1
 
--- The bytes between address and check byte.
+-- The bytes between address and check byte. `least` bytes are count and address, and as many are address and check byte.
 abbrev pub carried : Record → List ℕ
 carried r =
     let least = r .opening .width + 1 in

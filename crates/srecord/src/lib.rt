@@ -62,7 +62,7 @@ pub struct Loaded {
     pub line: usize,
 }
 
-// The refusal of an export, and the text's length.
+// The refusal of an export, and the text's length: 0 where it is refused.
 pub struct Exported {
     pub refusal: Refusal,
     pub length: usize,

@@ -24,7 +24,7 @@ pub fn next(text: &[u8], at: usize) -> usize
     i
 }
 
-// A line feed is the line's end, and so is a carriage return before it.
+// The end is a line feed, with the carriage return before it, if there is one.
 pub fn content_end(line: &[u8]) -> End
     ensures { λ e. ⌜ EndsAt (now (line .entry)) e ⌝ }
 {

@@ -65,7 +65,7 @@ impl Kind {
     }
 }
 
-// A line's kind and the bytes of its address.
+// A line's kind, and how many bytes its address has.
 pub enum Found {
     Opening(Kind, usize),
     Unknown,

@@ -154,7 +154,7 @@ pub fn parse(line: &[u8]) -> Parsed
     }
 }
 
-// What a line that is a record writes. Digits that do not say it are not looked at.
+// What a line that is a record writes. Digits that do not say it are not looked at, so that `checks` means nothing here.
 pub fn span(line: &[u8]) -> Parsed
     ensures { λ p. ⌜ Promises.Spans (now (line .entry)) p ⌝ }
 {

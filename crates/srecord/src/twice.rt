@@ -45,7 +45,7 @@ fn mark_line(marks: &mut [u8], low: usize, line: Parsed) -> bool
     }
 }
 
-// Of the first `limit` lines, the one that writes again an address in the window at `low`.
+// The first of `limit` lines that writes again an address in the window at `low`.
 fn again_in(text: &[u8], limit: usize, low: usize) -> usize
     requires { ⌜ (low ≤ 16777216) × AllRead (records (now text)) limit ⌝ }
     ensures { λ n. ⌜ FirstAgain (records (now (text .entry))) limit low (low + 229376) n ⌝ }
@@ -68,7 +68,7 @@ fn again_in(text: &[u8], limit: usize, low: usize) -> usize
     limit
 }
 
-// Window by window: each leaves fewer lines for the next ones to look at.
+// Window by window: each leaves no more lines for the next ones to look at.
 pub fn first_again(text: &[u8], size: usize, limit: usize) -> usize
     requires { ⌜ (size ≤ 16777216) × AllRead (records (now text)) limit ⌝ }
     ensures { λ n. ⌜ FirstAgain (records (now (text .entry))) limit 0 size n ⌝ }
