@@ -15,8 +15,8 @@ use lib.Seq.{drop-at, drop-cons, getD-drop, getD-take, length-take-le, sets, tak
 use Rattle.text.specs.declared.reading.Read.the-variants.{Number}
 use Rattle.srecord.specs.Lines.{content, cut, endsIn, lines, withoutLast}
 use Rattle.srecord.specs.Load.{placed, records}
-use Rattle.srecord.specs.Records.{Opening, Record, bytesOf, carried, dataFor, dataOf, ended, fits, may, opened, openingOf, recordOf, withBytes}
-use Rattle.srecord.specs.Promises.{ByteAt, LineAt, lengthFor, pairAt, placedBy}
+use Rattle.srecord.specs.Records.{Opening, Record, bytesOf, carried, dataFor, dataOf, fits, may, openingOf, recordOf}
+use Rattle.srecord.specs.Promises.{ByteAt, LineAt, ended, lengthFor, opened, pairAt, placedBy, withBytes}
 use Rattle.srecord.specs.declared.openings.Kind.{Kind}
 use Rattle.srecord.specs.declared.openings.Kind.the-variants.{Header, Data, Count, Closing}
 use Rattle.srecord.proofs.Pairs.{pair-of, twice-as-long}

@@ -23,7 +23,8 @@ use Rattle.srecord.specs.declared.openings.Kind.the-variants.{Data, Clos
 use Rattle.srecord.specs.Export.{bytesIn, checkByte, counted, lineOf, pairs}
 use Rattle.srecord.specs.Lines.{content, cut}
 use Rattle.srecord.specs.Load.{records, sum}
-use Rattle.srecord.specs.Records.{Opening, Record, address, among, bytesOf, dataOf, openingOf, openings, recordOf, withBytes}
+use Rattle.srecord.specs.Promises.{withBytes}
+use Rattle.srecord.specs.Records.{Opening, Record, address, among, bytesOf, dataOf, openingOf, openings, recordOf}
 use Rattle.srecord.proofs.WrittenPairs.{sum-append}
 
 -- A text in which a byte does not stand.

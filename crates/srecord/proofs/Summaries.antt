@@ -10,9 +10,9 @@ use borrow.Author.Tests.{eq-eqb, eqb-true, leb-true, ne-eqb}
 use lib.Dec.{eqb, leb}
 use lib.ListN.{drop, getD, length, length-drop, take}
 use lib.Seq.{length-take-le}
-use Rattle.srecord.specs.Records.{Opening, Record, address, bytesOf, carried, dataFor, dataOf, fits, may, withBytes}
+use Rattle.srecord.specs.Records.{Opening, Record, address, bytesOf, carried, dataFor, dataOf, fits, may}
 use Rattle.srecord.specs.Load.{sum}
-use Rattle.srecord.specs.Promises.{ByteAt, NumberAt, lengthFor, parsedOf, summary, totalOf}
+use Rattle.srecord.specs.Promises.{ByteAt, NumberAt, lengthFor, parsedOf, summary, totalOf, withBytes}
 use Rattle.srecord.specs.declared.openings.Kind.{Kind}
 use Rattle.srecord.specs.declared.openings.Kind.the-variants.{Header, Data, Count, Closing}
 use Rattle.srecord.specs.declared.records.Parsed.the-variants as parsed

@@ -81,7 +81,7 @@ unfoldable pub writtenTwice : Record → List Record → Bool
 writtenTwice r [] = false
 writtenTwice r (s ∷ records) = share r s || writtenTwice r records
 
--- A line's refusals in order, where `earlier` are the records of the lines before it and `size` is the memory's length.
+-- A record's refusals in order, where `earlier` are the records of the lines before it and `size` is the memory's length.
 -- 10: "a line after the closing one"; 11: the check byte "brings the low byte of the sum .. to H'FF"; 12: "a data byte outside memory";
 -- 13: "address written twice"; 14: "an S5 number must equal the data lines before it"
 unfoldable pub recordTests : ℕ → List Record → Record → List Test
@@ -93,6 +93,15 @@ recordTests size earlier r =
     ∷ test 14 (isCount (kindOf r) && not (eqb (address r) (dataLines earlier)))
     ∷ []
 
+-- A line's refusals. 10: "bad letter, type, length or line end"
+abbrev pub lineTests : ℕ → List Record → Option Record → List Test
+lineTests size earlier none = test 10 true ∷ []
+lineTests size earlier (some r) = recordTests size earlier r
+
+abbrev pub andBefore : Option Record → List Record → List Record
+andBefore none earlier = earlier
+andBefore (some r) earlier = r ∷ earlier
+
 -- The refusal's number, 0 where the text is accepted, and the line that it is about, 0 where it is about none.
 pub record Verdict : Type 0 where
   pub number : ℕ
@@ -101,13 +110,12 @@ pub record Verdict : Type 0 where
 abbrev pub verdict : ℕ → ℕ → Verdict
 verdict number line = record { number = number; line = line }
 
--- Line by line from line n on: the first bad line decides. 10: "bad letter, type, length or line end"; 15: "at the end .. no closing line"
+-- Line by line from line n on: the first bad line decides. 15: "at the end .. no closing line"
 unfoldable pub judged : ℕ → ℕ → List Record → List (Option Record) → Verdict
 judged size n earlier [] = cond (closed earlier) (verdict 0 0) (verdict 15 0)
-judged size n earlier (none ∷ rest) = verdict 10 n
-judged size n earlier (some r ∷ rest) =
-    let number = first (recordTests size earlier r) in
-    cond (eqb number 0) (judged size (n + 1) (r ∷ earlier) rest) (verdict number n)
+judged size n earlier (line ∷ rest) =
+    let number = first (lineTests size earlier line) in
+    cond (eqb number 0) (judged size (n + 1) (andBefore line earlier) rest) (verdict number n)
 
 abbrev pub records : List ℕ → List (Option Record)
 records text = map recordOf (lines text)

@@ -27,7 +27,7 @@ use Rattle.srecord.specs.declared.records.Total.the-variants as total
 use Rattle.srecord.specs.declared.sweep.SoFar.{SoFar}
 use Rattle.srecord.specs.declared.sweep.Swept.{Swept}
 use Rattle.srecord.specs.Lines.{content, lines}
-use Rattle.srecord.specs.Records.{Opening, Record, address, bytesOf, dataOf, recordOf, withBytes}
+use Rattle.srecord.specs.Records.{Opening, Record, address, andThen, bytesOf, dataOf, fits, openingOf, recordOf}
 use Rattle.srecord.specs.Load.{isClosing, isCount, isData, kindOf, refusalNumber, sum, writes}
 
 -- A line of a text: it begins at `at`, and the next one at `next`.
@@ -96,6 +96,16 @@ summary r =
 abbrev pub parsedOf : Option Record → Parsed
 parsedOf none = parsed.Malformed
 parsedOf (some r) = parsed.Record (summary r)
+
+-- What `recordOf` does in turn: with a line's bytes, behind its opening, before its end.
+abbrev pub withBytes : Opening → Option (List ℕ) → Option Record
+withBytes o x = andThen x (λ bytes. cond (fits o bytes) (some (record { opening = o; bytes = bytes })) none)
+
+abbrev pub opened : Option Opening → List ℕ → Option Record
+opened x line = andThen x (λ o. withBytes o (bytesOf (drop 2 line)))
+
+abbrev pub ended : Option (List ℕ) → Option Record
+ended x = andThen x (λ line. opened (openingOf line) line)
 
 -- A line that opens so, read from its digits.
 abbrev pub ReadsRecord : Kind → ℕ → List ℕ → Parsed → Type 0

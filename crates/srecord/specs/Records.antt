@@ -79,21 +79,16 @@ may Closing least count = eqb count least
 abbrev pub fits : Opening → List ℕ → Bool
 fits o bytes = eqb (length bytes) (getD bytes 0 0 + 1) && may (o .kind) (o .width + 1) (getD bytes 0 0)
 
-abbrev pub withBytes : Opening → Option (List ℕ) → Option Record
-withBytes o none = none
-withBytes o (some bytes) = cond (fits o bytes) (some (record { opening = o; bytes = bytes })) none
-
-abbrev pub opened : Option Opening → List ℕ → Option Record
-opened none line = none
-opened (some o) line = withBytes o (bytesOf (drop 2 line))
-
-abbrev pub ended : Option (List ℕ) → Option Record
-ended none = none
-ended (some line) = opened (openingOf line) line
+abbrev pub andThen : {A B : Type 0} → Option A → (A → Option B) → Option B
+andThen none f = none
+andThen (some x) f = f x
 
 -- The record that a line is; none where a letter, the type, the length or the line's end is bad.
 unfoldable pub recordOf : List ℕ → Option Record
-recordOf line = ended (content line)
+recordOf line =
+    andThen (content line) (λ l.
+    andThen (openingOf l) (λ o.
+    andThen (bytesOf (drop 2 l)) (λ bytes. cond (fits o bytes) (some (record { opening = o; bytes = bytes })) none)))
 
 -- "address of 2, 3 or 4 bytes"
 abbrev pub address : Record → ℕ

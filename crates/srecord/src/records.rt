@@ -137,7 +137,7 @@ fn with_bytes(kind: Kind, width: usize, digits: &[u8]) -> Parsed
 }
 
 fn opened(line: &[u8]) -> Parsed
-    ensures { λ r. ⌜ r ≡ Promises.parsedOf (Records.opened (Records.openingOf (now (line .entry))) (now (line .entry))) ⌝ }
+    ensures { λ r. ⌜ r ≡ Promises.parsedOf (Promises.opened (Records.openingOf (now (line .entry))) (now (line .entry))) ⌝ }
 {
     match openings::opening(line) {
         Found::Opening(kind, width) => with_bytes(kind, width, &line[2..]),

@@ -9,8 +9,8 @@ use native.Mathlib.Omega.{arith}
 use borrow.Author.Needs.{needs}
 use lib.ListN.{getD}
 use Rattle.srecord.specs.Load.{sum}
-use Rattle.srecord.specs.Promises.{parsedOf}
-use Rattle.srecord.specs.Records.{bytesOf, may, withBytes}
+use Rattle.srecord.specs.Promises.{parsedOf, withBytes}
+use Rattle.srecord.specs.Records.{bytesOf, may}
 use Rattle.srecord.proofs.Summaries.{first-byte, is-record, may-least, may-not, no-bytes, not-digits, sum-known, wrong-count}
 use Rattle.srecord.proofs.records.with_bytes.Statement.{statement}
 use Rattle.srecord.proofs.records.with_bytes.Tie as tie
@@ -34,9 +34,11 @@ pub with-bytes-spec : {M : Type 1} → statement M
 with-bytes-spec =
     tie.close
     (tie.spec (search needs) (search needs) (search needs)
-    (λ c start. let k = known (c .before) in no-bytes _ (k .0) (k .1) start _ _ (c .if1 .taken))
+    (λ c start. let s : tie.Start = search in let k = known (c .before) in
+    no-bytes _ (k .0) (k .1) start (s .args .kind) (s .args .width) (c .if1 .taken))
     (search needs) (search needs) (search needs)
-    (λ c start. let k = known (c .before .before .before) in wrong-count _ (k .0) (k .1) start _ _ _ (counted (c .before)) (c .if2 .taken))
+    (λ c start. let s : tie.Start = search in let k = known (c .before .before .before) in
+    wrong-count _ (k .0) (k .1) start (s .args .kind) (s .args .width) _ (counted (c .before)) (c .if2 .taken))
     (search needs) (search needs) (search needs)
     (λ c. omega (arith, least c))
     (λ c κs. (search needs, omega (arith, least c)))
@@ -47,5 +49,6 @@ with-bytes-spec =
     rw (c .data-length .ensures) (is-record _ (k .0) (k .1) start _ _ _ (counted (t .before .before .before)) (t .before .before .if2 .left) (allowed t) (c .before .number .ensures) (k .2)))
     (λ c start. rw (not-digits (bytesOf (c .before .before .before .before .args .digits .now)) (sym (c .enum-told .given .1) ∙ c .before .before .added .ensures)))
     (λ c start.
+    let s : tie.Start = search in
     let k = known (c .before .before .before .before .before) in
-    may-not _ (k .0) (k .1) start _ _ _ (counted (c .before .before .before)) (c .before .before .if2 .left) (sym (c .before .may .ensures) ∙ c .if3 .left)))
+    may-not _ (k .0) (k .1) start (s .args .kind) (s .args .width) _ (counted (c .before .before .before)) (c .before .before .if2 .left) (sym (c .before .may .ensures) ∙ c .if3 .left)))
