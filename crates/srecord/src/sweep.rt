@@ -22,6 +22,20 @@ pub struct SoFar {
     pub ordered: bool,
 }
 
+impl SoFar {
+    // Before the first line.
+    fn none() -> Self
+        ensures { λ s. ⌜ s ≡ Promises.fresh ⌝ }
+    {
+        SoFar {
+            count: 0,
+            closed: false,
+            top: 0,
+            ordered: true,
+        }
+    }
+}
+
 // The refusal and its line, the lines before it, and whether their data stand in order.
 pub struct Swept {
     pub refusal: Refusal,
@@ -97,12 +111,7 @@ fn noted(s: SoFar, r: Summary) -> SoFar
 pub fn sweep(text: &[u8], size: usize) -> Swept
     ensures { λ a. ⌜ Promises.findingOf a ≡ Promises.swept size 0 Promises.fresh (records (now (text .entry))) ⌝ }
 {
-    let mut s = SoFar {
-        count: 0,
-        closed: false,
-        top: 0,
-        ordered: true,
-    };
+    let mut s = SoFar::none();
     let mut n = 0;
     let mut at = 0;
     while at < text.len() {

@@ -23,7 +23,8 @@ abbrev μ-loop : tie.MeasureT-loop
 
 returns : tie.Need-returns Inv-loop μ-loop
 returns c =
-    let a = c .before .before .before .before .before .before .before .before .before .before .before .before .args in
+    let s : tie.Start Inv-loop μ-loop = search in
+    let a = s .args in
     let now = c .before .before .before .before .before .before .before .before .before .before .loop in
     let read = sym (c .before .before .before .before .r .given .1) ∙ c .before .before .before .before .before .before .parse .ensures in
     sym
@@ -33,14 +34,16 @@ returns c =
 
 returns-2 : tie.Need-returns-2 Inv-loop μ-loop
 returns-2 c =
-    let a = c .before .before .before .before .before .before .before .before .args in
+    let s : tie.Start Inv-loop μ-loop = search in
+    let a = s .args in
     let now = c .before .before .before .before .before .before .loop in
     let read = sym (c .enum-told .given .1) ∙ c .before .before .parse .ensures in
     sym (now .inv .3 ∙ malformed (a .size) (now .n) (now .s) (a .text .now) (now .at) _ (c .before .before .before .before .next .ensures) read)
 
 loop-again : tie.Need-loop-again Inv-loop μ-loop
 loop-again c =
-    let a = c .before .before .before .before .before .before .before .before .before .before .before .before .before .args in
+    let s : tie.Start Inv-loop μ-loop = search in
+    let a = s .args in
     let now = c .before .before .before .before .before .before .before .before .before .before .before .loop in
     let line = c .before .before .before .before .before .before .before .before .before .next .ensures in
     let read = sym (c .before .before .before .before .before .r .given .1) ∙ c .before .before .before .before .before .before .before .parse .ensures in (
@@ -55,13 +58,16 @@ loop-again c =
 
 returns-3 : tie.Need-returns-3 Inv-loop μ-loop
 returns-3 c =
-    let a = c .before .before .before .before .args in
+    let s : tie.Start Inv-loop μ-loop = search in
+    let a = s .args in
     let now = c .before .before .loop in
     rw (c .at-end .ensures) (sym (now .inv .3 ∙ nothing-left (a .size) (now .n) (now .s) (a .text .now) (now .at) (c .before .loop-test .left)))
 
 pub sweep-spec : {M : Type 1} → statement M
 sweep-spec =
     tie.close
-    (tie.spec Inv-loop μ-loop (search needs) (search needs) (search needs) (search needs) (search needs) (search needs) (search needs)
+    (tie.spec Inv-loop μ-loop (search needs)
+    (λ c. (search needs, search needs, rw (c .none .ensures) (search needs), rw (c .none .ensures)))
+    (search needs) (search needs) (search needs) (search needs) (search needs) (search needs)
     (search needs) (search needs) (search needs) returns (search needs) (search needs) (search needs) returns-2 (search needs) (search needs)
     loop-again (search needs) returns-3)
