@@ -10,9 +10,9 @@ use borrow.Author.Tests.{eqb-false, ltb-false, ne-eqb}
 use lib.Dec.{eqb, ltb}
 use lib.ListN.{length}
 use Rattle.memory.specs.Lengths.{first, test}
-use Rattle.srecord.specs.Load.{closed, dataLines, endOf, isCount, kindOf, recordTests, sum, writes, writtenTwice}
+use Rattle.srecord.specs.Load.{closed, dataLines, endOf, kindOf, recordTests, sum, writes, writtenTwice}
 use Rattle.srecord.specs.Promises.{singleTests, summary}
-use Rattle.srecord.specs.Records.{Record, address, carried, dataFor, dataOf}
+use Rattle.srecord.specs.Records.{Record, address, carried, dataFor, dataOf, isCount}
 use Rattle.srecord.specs.declared.openings.Kind.{Kind}
 use Rattle.srecord.specs.declared.openings.Kind.the-variants.{Header, Data, Count, Closing}
 use Rattle.srecord.proofs.Addresses.{inside}

@@ -25,7 +25,7 @@ use Rattle.srecord.specs.Promises.{ByteAt, pairAt, totalOf}
 use Rattle.srecord.specs.declared.records.Total.{Total}
 use Rattle.srecord.specs.declared.records.Total.the-variants as total
 
-never : {A : Type 0} {a : A} → none ≡ some a → ⊥
+pub never : {A : Type 0} {a : A} → none ≡ some a → ⊥
 never e = let z : _≡_ {A = ℕ} 0 1 = cc in omega arith
 
 -- A pair's byte, by its two digits.

@@ -19,7 +19,7 @@ use Rattle.srecord.specs.Records.{Opening, Record, bytesOf, carried, dat
 use Rattle.srecord.specs.Promises.{ByteAt, LineAt, ended, lengthFor, opened, pairAt, placedBy, withBytes}
 use Rattle.srecord.specs.declared.openings.Kind.{Kind}
 use Rattle.srecord.specs.declared.openings.Kind.the-variants.{Header, Data, Count, Closing}
-use Rattle.srecord.proofs.Pairs.{pair-of, twice-as-long}
+use Rattle.srecord.proofs.Pairs.{never, pair-of, twice-as-long}
 use Rattle.srecord.proofs.Summaries.{length-for, may-least}
 
 -- What is left to write of n bytes behind the first i.
@@ -68,9 +68,6 @@ module _ (memory text : List ℕ) (at : ℕ) where
 -- All that stands behind the opening.
 pub whole : (line : List ℕ) → take (length line - 2) (drop 2 line) ≡ drop 2 line
 whole line = take-all (length line - 2) (drop 2 line) (rw (length-drop 2 line) (le-refl (length line - 2)))
-
-pub never : {A : Type 0} {a : A} → none ≡ some a → ⊥
-never e = let z : _≡_ {A = ℕ} 0 1 = cc in omega arith
 
 pub same-opening : {x : Option Opening} {o p : Opening} → x ≡ some o → x ≡ some p → o ≡ p
 same-opening e f = cc

@@ -21,9 +21,9 @@ use Rattle.srecord.specs.declared.Exported.{Exported}
 use Rattle.srecord.specs.declared.Loaded.{Loaded}
 use Rattle.srecord.specs.declared.Refusal.the-variants.{Accepted}
 use Rattle.srecord.specs.Export.{Exports, s3Lines, exported, lineOf, refusedExport}
-use Rattle.srecord.specs.Load.{Loads, Verdict, closed, endOf, isCount, judged, kindOf, memoryAfter, placed, recordTests, records}
+use Rattle.srecord.specs.Load.{Loads, Verdict, closed, endOf, judged, kindOf, memoryAfter, placed, recordTests, records}
 use Rattle.srecord.specs.Load.{refusalNumber, sum, verdict, verdictOn, writtenTwice}
-use Rattle.srecord.specs.Records.{Record, address, dataOf}
+use Rattle.srecord.specs.Records.{Record, address, dataOf, isCount}
 use Rattle.srecord.proofs.Exports.{length-accepted}
 use Rattle.srecord.proofs.ReadBack.{address-back, bytes-drop, bytes-take, closing-line, closingOpening}
 use Rattle.srecord.proofs.ReadBack.{data-kept, data-line, dataOpening, recordWith, sum-back}

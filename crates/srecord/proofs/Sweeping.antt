@@ -10,8 +10,8 @@ use borrow.Author.Tests.{eq-eqb, ne-eqb}
 use lib.ListN.{drop, drop-of-length-le, length, take}
 use Rattle.memory.specs.Lengths.{first}
 use Rattle.srecord.specs.Lines.{cut, lines}
-use Rattle.srecord.specs.Records.{Record, recordOf}
-use Rattle.srecord.specs.Load.{isData, records}
+use Rattle.srecord.specs.Records.{Record, isData, recordOf}
+use Rattle.srecord.specs.Load.{records}
 use Rattle.srecord.specs.Promises.{LineAt, finding, noted, parsedOf, singleTests, summary, swept}
 use Rattle.srecord.specs.declared.records.Parsed.the-variants as parsed
 use Rattle.srecord.specs.declared.records.Summary.{Summary}

@@ -13,9 +13,9 @@ use borrow.Author.Count.{below-more}
 use borrow.Author.Tests.{eqb-true, leb-true, le-ltb, lt-ltb, ltb-false, ltb-true}
 use lib.Dec.{eqb, leb, ltb}
 use lib.ListN.{getD, length}
-use Rattle.srecord.specs.Load.{Verdict, closed, dataLines, endOf, isData, judged, kindOf, share, verdict, writes, writtenTwice}
+use Rattle.srecord.specs.Load.{Verdict, closed, dataLines, endOf, judged, kindOf, share, verdict, writes, writtenTwice}
 use Rattle.srecord.specs.Promises.{Again, AllRead, Finding, FirstAgain, Once, finding, fresh, noted, summary, swept}
-use Rattle.srecord.specs.Records.{Record, address, dataOf}
+use Rattle.srecord.specs.Records.{Record, address, dataOf, isData}
 use Rattle.srecord.specs.declared.sweep.SoFar.{SoFar}
 use Rattle.srecord.proofs.Addresses.{inside, shared, shares}
 use Rattle.srecord.proofs.LineTests.{alone, below, refusal}

@@ -12,9 +12,8 @@ use Rattle.srecord.specs.declared.Loaded.{Loaded}
 use Rattle.srecord.specs.declared.Refusal.{Refusal}
 use Rattle.srecord.specs.declared.Refusal.the-variants.{Accepted, Ragged, Size, Line, Check, Outside, Twice, Number, Unclosed, Room}
 use Rattle.srecord.specs.declared.openings.Kind.{Kind}
-use Rattle.srecord.specs.declared.openings.Kind.the-variants.{Header, Data, Count, Closing}
 use Rattle.srecord.specs.Lines.{lines}
-use Rattle.srecord.specs.Records.{Record, address, dataOf, recordOf}
+use Rattle.srecord.specs.Records.{Record, address, dataOf, isClosing, isCount, isData, recordOf}
 
 -- The paper's number of a refusal; 0 for none.
 abbrev pub refusalNumber : Refusal → ℕ
@@ -32,24 +31,6 @@ refusalNumber Room = 16
 abbrev pub sum : List ℕ → ℕ
 sum [] = 0
 sum (byte ∷ bytes) = byte + sum bytes
-
-abbrev pub isData : Kind → Bool
-isData Header = false
-isData Data = true
-isData Count = false
-isData Closing = false
-
-abbrev pub isCount : Kind → Bool
-isCount Header = false
-isCount Data = false
-isCount Count = true
-isCount Closing = false
-
-abbrev pub isClosing : Kind → Bool
-isClosing Header = false
-isClosing Data = false
-isClosing Count = false
-isClosing Closing = true
 
 abbrev pub kindOf : Record → Kind
 kindOf r = r .opening .kind

@@ -16,7 +16,6 @@ use Rattle.text.specs.declared.reading.Read.the-variants as read
 use Rattle.srecord.specs.declared.lines.End.{End}
 use Rattle.srecord.specs.declared.lines.End.the-variants as end
 use Rattle.srecord.specs.declared.openings.Kind.{Kind}
-use Rattle.srecord.specs.declared.openings.Kind.the-variants.{Header, Data, Count, Closing}
 use Rattle.srecord.specs.declared.openings.Found.{Found}
 use Rattle.srecord.specs.declared.openings.Found.the-variants as found
 use Rattle.srecord.specs.declared.records.Parsed.{Parsed}
@@ -27,8 +26,8 @@ use Rattle.srecord.specs.declared.records.Total.the-variants as total
 use Rattle.srecord.specs.declared.sweep.SoFar.{SoFar}
 use Rattle.srecord.specs.declared.sweep.Swept.{Swept}
 use Rattle.srecord.specs.Lines.{content, lines}
-use Rattle.srecord.specs.Records.{Opening, Record, address, andThen, bytesOf, dataOf, fits, openingOf, recordOf}
-use Rattle.srecord.specs.Load.{isClosing, isCount, isData, kindOf, refusalNumber, sum, writes}
+use Rattle.srecord.specs.Records.{Opening, Record, address, andThen, bytesOf, dataOf, fits, isClosing, isCount, isData, openingOf, recordOf}
+use Rattle.srecord.specs.Load.{kindOf, refusalNumber, sum, writes}
 
 -- A line of a text: it begins at `at`, and the next one at `next`.
 pub record LineAt (text : List ℕ) (at next : ℕ) : Type 0 where
@@ -77,10 +76,7 @@ pub record NumberAt (digits : List ℕ) (at k n : ℕ) : Type 0 where
 
 -- How many of n bytes a line of this kind writes.
 abbrev pub lengthFor : Kind → ℕ → ℕ
-lengthFor Header n = 0
-lengthFor Data n = n
-lengthFor Count n = 0
-lengthFor Closing n = 0
+lengthFor kind n = cond (isData kind) n 0
 
 -- A record, as the code has it.
 abbrev pub summary : Record → Summary

@@ -16,6 +16,25 @@ use Rattle.srecord.specs.declared.openings.Kind.{Kind}
 use Rattle.srecord.specs.declared.openings.Kind.the-variants.{Header, Data, Count, Closing}
 use Rattle.srecord.specs.Lines.{content}
 
+-- What a line is for.
+abbrev pub isData : Kind → Bool
+isData Header = false
+isData Data = true
+isData Count = false
+isData Closing = false
+
+abbrev pub isCount : Kind → Bool
+isCount Header = false
+isCount Data = false
+isCount Count = true
+isCount Closing = false
+
+abbrev pub isClosing : Kind → Bool
+isClosing Header = false
+isClosing Data = false
+isClosing Count = false
+isClosing Closing = true
+
 -- One of the "eight byte strings" that open a line, what such a line is for, and how many bytes its address has.
 pub record Opening : Type 0 where
   pub start : List ℕ
@@ -101,10 +120,7 @@ carried r =
     take (getD (r .bytes) 0 0 - least) (drop least (r .bytes))
 
 abbrev pub dataFor : Kind → List ℕ → List ℕ
-dataFor Header bytes = []
-dataFor Data bytes = bytes
-dataFor Count bytes = []
-dataFor Closing bytes = []
+dataFor kind bytes = cond (isData kind) bytes []
 
 -- The data that a line writes: S1's, S2's and S3's; "S0's is skipped".
 abbrev pub dataOf : Record → List ℕ

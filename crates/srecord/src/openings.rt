@@ -2,9 +2,8 @@
 ghost use mathlib.Core.Path.{_≡_};
 ghost use Prim.Native.Nat.{_≤_};
 ghost use lib.ListN.{length};
-ghost use Rattle.srecord.specs.Load.{isClosing, isCount, isData};
 ghost use Rattle.srecord.specs.Promises.{begins, foundOf};
-ghost use Rattle.srecord.specs.Records.{openingOf};
+ghost use Rattle.srecord.specs.Records.{isClosing, isCount, isData, openingOf};
 
 pub const S0: [u8; 2] = *b"S0";
 

@@ -10,7 +10,8 @@ ghost use mathlib.Core.Bool.{_&&_, cond, not};
 ghost use lib.Dec.{eqb, ltb};
 ghost use Prim.Native.Nat.{_+_, _^_, _<_};
 ghost use Rattle.memory.specs.Lengths.{first};
-ghost use Rattle.srecord.specs.Load.{isCount, isData, records, refusalNumber};
+ghost use Rattle.srecord.specs.Load.{records, refusalNumber};
+ghost use Rattle.srecord.specs.Records.{isCount, isData};
 ghost use Rattle.srecord.specs.Promises as Promises;
 
 // What is known of the lines so far: data lines, whether one was a closing line, where the last data ended, and whether each began at or

@@ -7,7 +7,8 @@ use Prim.Native.Nat.{ℕ}
 use Rattle.srecord.specs.Records.{Opening, openingOf}
 use Rattle.srecord.specs.Promises.{foundOf}
 use Rattle.srecord.specs.declared.openings.Found.the-variants as found
-use Rattle.srecord.proofs.Placement.{never, opening-seen, same-opening}
+use Rattle.srecord.proofs.Placement.{opening-seen, same-opening}
+use Rattle.srecord.proofs.Pairs.{never}
 use Rattle.srecord.proofs.Starts.{long-enough, starts, unknown}
 use Rattle.srecord.proofs.records.span.Statement.{statement}
 use Rattle.srecord.proofs.records.span.Tie as tie
