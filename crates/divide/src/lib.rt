@@ -1,13 +1,8 @@
 // The divide steps: document 000, sections 6.17 to 6.19, with document 01, "Instructions with corners", for DIV1.
 use numbers::HALF;
-use numbers::REACH;
 use std::num::wrapping_add_u32;
 use std::num::wrapping_sub_u32;
 ghost use mathlib.Core.Path.{_≡_};
-ghost use mathlib.Core.Bool.{cond};
-ghost use Prim.Native.Nat.{_+_, _^_};
-ghost use lib.Dec.{leb, ltb};
-ghost use Rattle.arithmetic.specs.Sums.{add, sub};
 ghost use Rattle.divide.specs.Divide as Divide;
 
 // M, Q and T.
@@ -40,38 +35,46 @@ pub fn div0u() -> Bits
     Bits { m: 0, q: 0, t: 0 }
 }
 
+// DIV1 as its page has it, branch by branch; true is the page's 1. m is Rm before the instruction, also for m = n, where the page's R[m] is
+// the shifted Rn (document 01, "Instructions with corners").
 pub fn div1(m: u32, n: u32, m_bit: u32, q: u32, t: u32) -> Divided
     ensures { λ r. ⌜ r ≡ Divide.div1 m n «m_bit» q t ⌝ }
 {
-    let doubled = ((n as u64 * 2 + t as u64) % REACH) as u32;
-    let partial = partial_remainder(q == m_bit, doubled, m);
-    let new_q = n / HALF ^ (m_bit == 1) as u32 ^ partial.changed as u32;
+    let m_is_1 = m_bit == 1;
+    // For bits this is `q == 1`. Document 01 asks whether the old Q equals M, and the promise holds for numbers that are no bits, too.
+    let old_q = if m_is_1 { q == m_bit } else { q != m_bit };
+    let mut q = n / HALF;
+    let shifted = wrapping_add_u32(n << 1, t);
+    let value: u32;
+    match old_q {
+        false => match m_is_1 {
+            false => {
+                value = wrapping_sub_u32(shifted, m); // the page's tmp0 is `shifted`,
+                let borrow = (value > shifted) as u32; // its tmp1 `borrow` or `carry`
+                q = if q == 0 { borrow } else { (borrow == 0) as u32 };
+            }
+            true => {
+                value = wrapping_add_u32(shifted, m);
+                let carry = (value < shifted) as u32;
+                q = if q == 0 { (carry == 0) as u32 } else { carry };
+            }
+        },
+        true => match m_is_1 {
+            false => {
+                value = wrapping_add_u32(shifted, m);
+                let carry = (value < shifted) as u32;
+                q = if q == 0 { carry } else { (carry == 0) as u32 };
+            }
+            true => {
+                value = wrapping_sub_u32(shifted, m);
+                let borrow = (value > shifted) as u32;
+                q = if q == 0 { (borrow == 0) as u32 } else { borrow };
+            }
+        },
+    }
     Divided {
-        value: partial.value,
-        q: new_q,
-        t: (new_q == m_bit) as u32,
-    }
-}
-
-// A partial remainder, and whether forming it borrowed or carried.
-struct Partial {
-    value: u32,
-    changed: bool,
-}
-
-fn partial_remainder(subtract: bool, doubled: u32, m: u32) -> Partial
-    ensures value { λ r. ⌜ r .value ≡ cond subtract (sub m doubled) (add m doubled) ⌝ }
-    ensures changed { λ r. ⌜ r .changed ≡ cond subtract (ltb doubled m) (leb (2 ^ 32) (doubled + m)) ⌝ }
-{
-    if subtract {
-        return Partial {
-            value: wrapping_sub_u32(doubled, m),
-            changed: doubled < m,
-        };
-    }
-    let sum = wrapping_add_u32(doubled, m);
-    Partial {
-        value: sum,
-        changed: sum < m,
+        value,
+        q,
+        t: (q == m_bit) as u32,
     }
 }
