@@ -1,5 +1,5 @@
--- Why each of the eight branches of DIV1's page (document 000, section 6.19) gives what document 01's five sentences give: a law of the
--- difference and the sum, a law of Q, and the two together.
+-- Why each of the eight branches of DIV1's page (document 000, section 6.19) gives what document 01's sentences give: a law of the difference and
+-- the sum, a law of Q, and the two together.
 -- Assumes nothing.
 use mathlib.Core.Path.{_≡_, refl}
 use mathlib.Core.Bool.{Bool, true, false, not, cond}
@@ -13,7 +13,7 @@ use Rattle.arithmetic.specs.Sums.{add, sub}
 use Rattle.divide.specs.declared.Divided.{Divided}
 use Rattle.divide.specs.Divide.{flipped, div1}
 
--- What a wrapping difference, or sum, ensures.
+-- What the wrapping difference (true) or sum (false) v of d and m ensures.
 abbrev Wraps : Bool → ℕ → ℕ → ℕ → Type 0
 Wraps true m d v = (v + m) % 2 ^ 32 ≡ d
 Wraps false m d v = v ≡ (d + m) % 2 ^ 32
@@ -22,7 +22,7 @@ Wraps false m d v = v ≡ (d + m) % 2 ^ 32
 abbrev tmp1 : Bool → ℕ → ℕ → Bool
 tmp1 subtracts d v = cond subtracts (ltb d v) (ltb v d)
 
--- What is left is what the sentences subtract or add, and tmp1 is its borrow or carry.
+-- v is the sentences' difference or sum, and tmp1 its borrow or carry.
 partial :
     (subtracts : Bool) (m d v : ℕ) → m < 2 ^ 32 → d < 2 ^ 32 → v < 2 ^ 32 → Wraps subtracts m d v →
     (v ≡ cond subtracts (sub m d) (add m d)) × (tmp1 subtracts d v ≡ cond subtracts (ltb d m) (leb (2 ^ 32) (d + m)))
@@ -37,7 +37,7 @@ partial false m d v hm hd hv e = (e, go (leb (2 ^ 32) (d + m)) refl)
     go true t = let l : 2 ^ 32 ≤ d + m = leb-true (2 ^ 32) (d + m) t in lt-ltb v d (omega arith)
     go false t = let l : d + m < 2 ^ 32 = leb-false (2 ^ 32) (d + m) t in le-ltb v d (omega arith)
 
--- The page's case of Q, which is the top bit.
+-- Which case of the page's switch(Q): the top bit is 0, or not.
 abbrev Zero : Bool → ℕ → Type 0
 Zero true q = q ≡ 0
 Zero false q = q ≡ 0 → ⊥
@@ -64,7 +64,7 @@ flips false true false = refl
 flips false false true = refl
 flips false false false = refl
 
--- "Rm is subtracted if old Q = M", of bits.
+-- "Rm is subtracted if old Q = M", from the cases of the old Q and M.
 abbrev pub subtracts : Bool → Bool → Bool
 subtracts oldQ mIs1 = cond mIs1 oldQ (not oldQ)
 

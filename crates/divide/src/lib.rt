@@ -35,8 +35,8 @@ pub fn div0u() -> Bits
     Bits { m: 0, q: 0, t: 0 }
 }
 
-// DIV1 as its page has it, branch by branch; true is the page's 1. m is Rm before the instruction, also for m = n, where the page's R[m] is
-// the shifted Rn (document 01, "Instructions with corners").
+// 6.19 DIV1 Rm,Rn, branch by branch as on its page; true is the page's 1. By document 01 Rm is its value before the instruction, also where
+// Rm and Rn are one register, which the page's R[m] would read shifted.
 pub fn div1(m: u32, n: u32, m_bit: u32, q: u32, t: u32) -> Divided
     ensures { λ r. ⌜ r ≡ Divide.div1 m n «m_bit» q t ⌝ }
 {
@@ -44,13 +44,13 @@ pub fn div1(m: u32, n: u32, m_bit: u32, q: u32, t: u32) -> Divided
     // For bits this is `q == 1`. Document 01 asks whether the old Q equals M, and the promise holds for numbers that are no bits, too.
     let old_q = if m_is_1 { q == m_bit } else { q != m_bit };
     let mut q = n / HALF;
-    let shifted = wrapping_add_u32(n << 1, t);
+    let shifted = wrapping_add_u32(n << 1, t); // document 01: "T added"; of a bit, the page's |=
     let value: u32;
     match old_q {
         false => match m_is_1 {
             false => {
-                value = wrapping_sub_u32(shifted, m); // the page's tmp0 is `shifted`,
-                let borrow = (value > shifted) as u32; // its tmp1 `borrow` or `carry`
+                value = wrapping_sub_u32(shifted, m); // shifted: the page's tmp0
+                let borrow = (value > shifted) as u32; // borrow, and carry below: its tmp1
                 q = if q == 0 { borrow } else { (borrow == 0) as u32 };
             }
             true => {

@@ -1,4 +1,4 @@
--- `div1` comes to its end by eight ways, the branches of its page, and one law, `branch`, says of each that it gives what is promised.
+-- `div1` reaches its end in eight ways, the branches of its page, and one law, `branch`, says of each that it gives what is promised.
 -- Assumes nothing.
 use mathlib.Core.Path.{_≡_}
 use mathlib.Core.Bool.{true, false, Bool·not-not}
