@@ -1,5 +1,5 @@
--- Why each of the eight branches of DIV1's page (document 000, section 6.19) gives what document 01's sentences give: a law of the difference and
--- the sum, a law of Q, and the two together.
+-- Why each of the eight branches of DIV1's page (document 000, section 6.19) gives what document 01's sentences give: a law of the
+-- difference and the sum, a law of Q, and the two together.
 -- Assumes nothing.
 use mathlib.Core.Path.{_≡_, refl}
 use mathlib.Core.Bool.{Bool, true, false, not, cond}
