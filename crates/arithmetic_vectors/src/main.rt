@@ -1,4 +1,5 @@
 // Runs the examples of document 000, chapter 6, that are pure computations printed whole, and prints what they give, in its order.
+#![tactic(auto)]
 use arithmetic::{compares, logic, sums, transfers};
 use libc::STDOUT_FILENO;
 use multiply::Mac;

@@ -3,7 +3,7 @@ use crate::given::Situation;
 use crate::lines;
 use machine::{Answer, Machine};
 
-#[derive(Drop)]
+#[derive(Clone, Copy)]
 pub enum Call {
     Reset,
     Step,

@@ -4,7 +4,7 @@ use machine::{Machine, Mode};
 use memory::{Long, Word};
 
 // A machine, and the memory that is lent to it.
-#[derive(Drop)]
+#[derive(Clone, Copy)]
 pub struct Situation {
     pub image: [u8; 1024],
     pub machine: Machine,

@@ -1,5 +1,6 @@
 // Calls `reset`, `step` and `run` where no other program does: step by step, refused, of a machine that is asleep, stopped or in a slot.
 // Each line has a call and what it gave, over document 01's image ("The runner") or one that differs from it in a few words.
+#![tactic(auto)]
 mod call;
 mod given;
 mod lines;

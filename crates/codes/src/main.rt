@@ -1,5 +1,6 @@
 // Prints, for each row of the code table (document 000, Table 5.9), its pattern, how many of the 65,536 words decode to it, and
 // the first and the last of them; then how many words are defined and undefined.
+#![tactic(auto)]
 use libc::STDOUT_FILENO;
 
 const ROWS: usize = 142;
@@ -150,7 +151,7 @@ const PATTERNS: [u8; 2272] = *b"\
     11001110iiiiiiii\
     0010nnnnmmmm1101";
 
-#[derive(Drop)]
+#[derive(Clone, Copy)]
 struct Words {
     count: u64,
     first: u64,

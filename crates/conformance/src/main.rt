@@ -1,5 +1,6 @@
 // Prints the report of each image of a corpus on standard input, under its number. A corpus is a count, then for each image its length
 // and its bytes; count and length are longs, as in memory. Where the corpus breaks off, the output ends.
+#![tactic(auto)]
 use libc::{STDIN_FILENO, STDOUT_FILENO};
 use memory::{Loaded, Long};
 

@@ -2,7 +2,7 @@
 // Operands stand in the order of the assembler text. Register numbers, immediates and displacements are the code's own
 // bits: what extends or scales them belongs to the instruction's operation.
 
-#[derive(Drop)]
+#[derive(Clone, Copy)]
 pub enum Meaning {
     // The code table has no such word.
     Undefined,
@@ -58,7 +58,7 @@ pub enum Meaning {
     Trapa(u8),
 }
 
-#[derive(Drop)]
+#[derive(Clone, Copy)]
 pub enum NoOperand {
     Clrmac,
     Clrt,
@@ -68,7 +68,7 @@ pub enum NoOperand {
     Sleep,
 }
 
-#[derive(Drop)]
+#[derive(Clone, Copy)]
 pub enum OneRegister {
     Dt,
     Movt,
@@ -88,13 +88,13 @@ pub enum OneRegister {
     Shlr16,
 }
 
-#[derive(Drop)]
+#[derive(Clone, Copy)]
 pub enum CompareZero {
     CmpPl,
     CmpPz,
 }
 
-#[derive(Drop)]
+#[derive(Clone, Copy)]
 pub enum TwoRegisters {
     Add,
     Addc,
@@ -118,7 +118,7 @@ pub enum TwoRegisters {
     Xtrct,
 }
 
-#[derive(Drop)]
+#[derive(Clone, Copy)]
 pub enum Compare {
     CmpEq,
     CmpGe,
@@ -129,13 +129,13 @@ pub enum Compare {
     Tst,
 }
 
-#[derive(Drop)]
+#[derive(Clone, Copy)]
 pub enum Divide {
     Div0s,
     Div1,
 }
 
-#[derive(Drop)]
+#[derive(Clone, Copy)]
 pub enum Multiply {
     DmulsL,
     DmuluL,
@@ -144,19 +144,19 @@ pub enum Multiply {
     MuluW,
 }
 
-#[derive(Drop)]
+#[derive(Clone, Copy)]
 pub enum MultiplyAdd {
     MacL,
     MacW,
 }
 
-#[derive(Drop)]
+#[derive(Clone, Copy)]
 pub enum Immediate {
     AddImm,
     MovImm,
 }
 
-#[derive(Drop)]
+#[derive(Clone, Copy)]
 pub enum ImmediateR0 {
     AndImm,
     CmpEqImm,
@@ -165,7 +165,7 @@ pub enum ImmediateR0 {
     XorImm,
 }
 
-#[derive(Drop)]
+#[derive(Clone, Copy)]
 pub enum ImmediateByte {
     AndB,
     OrB,
@@ -174,7 +174,7 @@ pub enum ImmediateByte {
 }
 
 // The size of a memory operand: .B, .W, .L.
-#[derive(Drop)]
+#[derive(Clone, Copy)]
 pub enum Size {
     Byte,
     Word,
@@ -182,7 +182,7 @@ pub enum Size {
 }
 
 // The addressing modes that loads and stores share (section 4.2).
-#[derive(Drop)]
+#[derive(Clone, Copy)]
 pub enum Address {
     // @Rn
     Indirect(u8),
@@ -194,7 +194,7 @@ pub enum Address {
     GbrDisplacement(u8),
 }
 
-#[derive(Drop)]
+#[derive(Clone, Copy)]
 pub enum Relative {
     MovW,
     MovL,
@@ -202,7 +202,7 @@ pub enum Relative {
 }
 
 // The control registers (section 2.2) and system registers (section 2.3) that LDC, LDS, STC and STS move.
-#[derive(Drop)]
+#[derive(Clone, Copy)]
 pub enum ControlRegister {
     Gbr,
     Sr,
@@ -212,7 +212,7 @@ pub enum ControlRegister {
     Pr,
 }
 
-#[derive(Drop)]
+#[derive(Clone, Copy)]
 pub enum BranchIf {
     Bf,
     BfS,
@@ -220,13 +220,13 @@ pub enum BranchIf {
     BtS,
 }
 
-#[derive(Drop)]
+#[derive(Clone, Copy)]
 pub enum Branch {
     Bra,
     Bsr,
 }
 
-#[derive(Drop)]
+#[derive(Clone, Copy)]
 pub enum BranchTo {
     Braf,
     Bsrf,
@@ -234,7 +234,7 @@ pub enum BranchTo {
     Jsr,
 }
 
-#[derive(Drop)]
+#[derive(Clone, Copy)]
 pub enum Return {
     Rte,
     Rts,

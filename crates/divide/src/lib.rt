@@ -1,4 +1,5 @@
 // The divide steps: document 000, sections 6.17 to 6.19, with document 01, "Instructions with corners", for DIV1.
+#![tactic(auto)]
 ghost use Rattle.std.specs.Prelude.{◌≡◌};
 ghost use Rattle.divide.specs.Divide as Divide;
 
@@ -6,7 +7,7 @@ use numbers::HALF;
 use std::num::{wrapping_add_u32, wrapping_sub_u32};
 
 // M, Q and T.
-#[derive(Drop)]
+#[derive(Clone, Copy)]
 pub struct Bits {
     pub m: u32,
     pub q: u32,
@@ -14,7 +15,7 @@ pub struct Bits {
 }
 
 // Rn's new value, Q and T.
-#[derive(Drop)]
+#[derive(Clone, Copy)]
 pub struct Divided {
     pub value: u32,
     pub q: u32,

@@ -1,5 +1,6 @@
 // Runs the 66-step division (document 01, "The division, in full") over 28 inputs, each cut into runs in four ways, and prints low, high, Q,
 // T and the steps reported in sum.
+#![tactic(auto)]
 use instructions::Control;
 use libc::STDOUT_FILENO;
 use machine::{Machine, Mode};

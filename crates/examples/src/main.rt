@@ -1,6 +1,7 @@
 // Runs the examples of document 000 that need the machine, in its order: each is an image of 16,384 bytes that is reset and run, and
 // what the manual says of the state after execution is printed. The tables name the lines of the document's text. An address that
 // lies outside the memory keeps its last three digits: H'10000004 is H'3004 here, H'12345670 H'3670 and H'FFFF7F80 H'3F80.
+#![tactic(auto)]
 mod add_to_cmp;
 mod chapter_4;
 mod div1;

@@ -1,4 +1,5 @@
 // Reads an image on standard input, as the runner does, and writes it as S-records; or says why it is refused.
+#![tactic(auto)]
 ghost use Rattle.std.specs.Prelude.{◌≡◌, length};
 
 use libc::{STDIN_FILENO, STDOUT_FILENO};

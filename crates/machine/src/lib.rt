@@ -1,4 +1,5 @@
 // The machine: its registers and its mode (document 01, "State"), what a call answers, and the calls.
+#![tactic(auto)]
 mod calls;
 mod exceptions;
 mod run_loop;
@@ -12,7 +13,7 @@ pub use calls::{reset, run, step};
 use instructions::Control;
 
 // Why a machine stopped (document 01, "Exceptions").
-#[derive(Drop)]
+#[derive(Clone, Copy)]
 pub enum Stop {
     // Reason 1: R15 is not a multiple of 4, or a push would fall outside.
     Push,
@@ -35,7 +36,7 @@ impl Stop {
 }
 
 // Exactly one of: running; in a slot, with the target; asleep; stopped, with a reason.
-#[derive(Drop)]
+#[derive(Clone, Copy)]
 pub enum Mode {
     Running,
     Slot(u32),
@@ -43,7 +44,7 @@ pub enum Mode {
     Stopped(Stop),
 }
 
-#[derive(Drop)]
+#[derive(Clone, Copy)]
 pub struct Machine {
     pub r: [u32; 16],
     pub control: Control,
@@ -51,7 +52,7 @@ pub struct Machine {
 }
 
 // Why a call is refused, if it is (document 01, "Refusals of a call").
-#[derive(Drop)]
+#[derive(Clone, Copy)]
 pub enum Refusal {
     Accepted,
     // 1: the memory's length is not a multiple of 4.
@@ -76,7 +77,7 @@ impl Refusal {
     }
 }
 
-#[derive(Drop)]
+#[derive(Clone, Copy)]
 pub struct Answer {
     pub refusal: Refusal,
     pub machine: Machine,

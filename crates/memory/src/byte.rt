@@ -4,7 +4,7 @@ ghost use Rattle.memory.specs.Access.{accessible, loaded, Stores};
 
 use crate::{Loaded, Stored, read, write};
 
-#[derive(Drop)]
+#[derive(Clone, Copy)]
 pub struct Byte;
 
 impl Byte {

@@ -1,4 +1,5 @@
 // Big-endian loads and stores of a byte, a word and a long over a lent memory, and the lengths that it may have (document 01, "Memory").
+#![tactic(auto)]
 ghost use Rattle.std.specs.Prelude.{◌≡◌, ◌<◌, length};
 ghost use Rattle.memory.specs.Access.{put, ByteAt};
 
@@ -13,14 +14,14 @@ pub use long::Long;
 pub use word::Word;
 
 // What a load answers. A value is not extended: a byte is below H'100, a word below H'10000.
-#[derive(Drop)]
+#[derive(Clone, Copy)]
 pub enum Loaded {
     Value(u32),
     Fault,
 }
 
 // What a store answers. One that faults has changed nothing.
-#[derive(Drop)]
+#[derive(Clone, Copy)]
 pub enum Stored {
     Done,
     Fault,

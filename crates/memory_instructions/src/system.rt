@@ -15,7 +15,7 @@ pub fn load_control(register: ControlRegister, m: u8, control: Control, r: &[u32
 }
 
 // What LDC.L and LDS.L give.
-#[derive(Drop)]
+#[derive(Clone, Copy)]
 pub struct Popped {
     pub control: Control,
     pub flow: Flow,

@@ -1,4 +1,5 @@
 // Multiplications, and multiplications that add to MACH and MACL: document 000, sections 6.20, 6.21, 6.29, 6.31 and 6.38 to 6.40.
+#![tactic(auto)]
 ghost use Rattle.std.specs.Prelude.{◌≡◌, ◌+◌, ◌%◌, ◌^◌, ◌<◌};
 ghost use Rattle.std.specs.Int.Signed.{mag};
 ghost use Rattle.numbers.specs.Numbers.{signed};
@@ -9,7 +10,7 @@ use std::num::wrapping_add_u64;
 
 const HALF_WORD: u32 = 0x8000;
 
-#[derive(Drop)]
+#[derive(Clone, Copy)]
 pub struct Mac {
     pub mach: u32,
     pub macl: u32,

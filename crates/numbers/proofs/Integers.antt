@@ -57,7 +57,7 @@ mag_minus a b k l h g = mag_plus a (neg_ℤ b) k (suc l) h (negated b g)
 
 -- A signed number that fits 64 bits is what they read back as.
 pub read_back : (z : ℤ) → mag z < 2 ^ 63 → to_z w64 (of_z w64 z) ≡ z
-read_back z h = to_z-of_z (record { sfits = h })
+read_back z h = to_z-of_z {w = w64} (record { sfits = h })
 
 -- A product is not larger than the product of bounds.
 abs_negated : (x : ℕ) → mag (neg_ℤ (pos x)) ≤ x

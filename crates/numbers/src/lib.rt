@@ -1,4 +1,5 @@
 // Registers read as signed numbers, and signed numbers put back into registers (document 000, sections 3.1 and 6.1).
+#![tactic(auto)]
 ghost use Rattle.std.specs.Prelude.{◌≡◌};
 ghost use Rattle.numbers.specs.Numbers.{signed as signed_of, low_long, low_quad, overflows as overflows_of};
 
@@ -8,7 +9,7 @@ pub const REACH: u64 = 0x1_0000_0000;
 pub const HALF: u32 = 0x8000_0000;
 
 // A register's new value, and the T bit.
-#[derive(Drop)]
+#[derive(Clone, Copy)]
 pub struct WithT {
     pub value: u32,
     pub t: u32,

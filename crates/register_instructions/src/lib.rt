@@ -1,3 +1,4 @@
 // The instructions that work on registers alone.
+#![tactic(auto)]
 pub mod registers;
 mod results;

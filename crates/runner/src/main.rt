@@ -1,4 +1,5 @@
 // Prints the report of the image on standard input (document 01, "The runner").
+#![tactic(auto)]
 use libc::{STDIN_FILENO, STDOUT_FILENO};
 
 fn main() {

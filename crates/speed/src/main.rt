@@ -1,5 +1,6 @@
 // For measuring (docs/PERFORMANCE.md): resets and runs the image on standard input for 1,000,000 steps, and prints the steps taken and
 // the PC in decimal.
+#![tactic(auto)]
 use libc::{STDIN_FILENO, STDOUT_FILENO};
 
 const BUDGET: u32 = 1000000;

@@ -1,4 +1,5 @@
 // Motorola S-record text, read into a lent memory and written into a lent buffer (document 02, request One).
+#![tactic(auto)]
 mod exporting;
 mod lines;
 mod marks;
@@ -15,7 +16,7 @@ ghost use Rattle.srecord.specs.Load.{Loads, refusal_number};
 pub use exporting::export;
 
 // Why a call is refused, if it is: document 01's 1 and 2, and those of request One.
-#[derive(Drop)]
+#[derive(Clone, Copy)]
 pub enum Refusal {
     Accepted,
     // 1: the memory's length is not a multiple of 4.
@@ -59,14 +60,14 @@ impl Refusal {
 }
 
 // The refusal of a text, and the line that it is about: 0 where it is about none.
-#[derive(Drop)]
+#[derive(Clone, Copy)]
 pub struct Loaded {
     pub refusal: Refusal,
     pub line: usize,
 }
 
 // The refusal of an export, and the text's length: 0 where it is refused.
-#[derive(Drop)]
+#[derive(Clone, Copy)]
 pub struct Exported {
     pub refusal: Refusal,
     pub length: usize,

@@ -3,7 +3,7 @@ ghost use Rattle.std.specs.Prelude.{◌<◌, length};
 ghost use Rattle.srecord.specs.Promises.{EndsAt, LineAt};
 
 // Where a line's content ends, if the line has an end.
-#[derive(Drop)]
+#[derive(Clone, Copy)]
 pub enum End {
     At(usize),
     Missing,

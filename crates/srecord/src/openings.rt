@@ -20,7 +20,7 @@ pub const S8: [u8; 2] = *b"S8";
 pub const S9: [u8; 2] = *b"S9";
 
 // What a line is for.
-#[derive(Drop)]
+#[derive(Clone, Copy)]
 pub enum Kind {
     Header,
     Data,
@@ -64,7 +64,7 @@ impl Kind {
 }
 
 // A line's kind, and how many bytes its address has.
-#[derive(Drop)]
+#[derive(Clone, Copy)]
 pub enum Found {
     Opening(Kind, usize),
     Unknown,

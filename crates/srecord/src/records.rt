@@ -10,7 +10,7 @@ use crate::{lines, openings};
 use std::num::wrapping_add_u32;
 
 // What is kept of a record: the data's length is that of the bytes which it writes.
-#[derive(Drop)]
+#[derive(Clone, Copy)]
 pub struct Summary {
     pub kind: Kind,
     pub width: usize,
@@ -19,14 +19,14 @@ pub struct Summary {
     pub checks: bool,
 }
 
-#[derive(Drop)]
+#[derive(Clone, Copy)]
 pub enum Parsed {
     Record(Summary),
     Malformed,
 }
 
 // The low byte of the sum over pairs of digits.
-#[derive(Drop)]
+#[derive(Clone, Copy)]
 pub enum Total {
     Sum(u32),
     NotHex,

@@ -11,7 +11,7 @@ use crate::{Refusal, lines, records};
 
 // What is known of the lines so far: data lines, whether one was a closing line, where the last data ended, and whether each began at or
 // behind the end of the one before it.
-#[derive(Drop)]
+#[derive(Clone, Copy)]
 pub struct SoFar {
     pub count: usize,
     pub closed: bool,
@@ -34,7 +34,7 @@ impl SoFar {
 }
 
 // The refusal and its line, the lines before it, and whether their data stand in order.
-#[derive(Drop)]
+#[derive(Clone, Copy)]
 pub struct Swept {
     pub refusal: Refusal,
     pub line: usize,

@@ -1,4 +1,5 @@
 // Reads S-record text on standard input into a memory of 65,536 zeros, and writes the memory; or says why the text is refused.
+#![tactic(auto)]
 ghost use Rattle.std.specs.Prelude.{◌≡◌, length};
 
 use libc::{STDIN_FILENO, STDOUT_FILENO};

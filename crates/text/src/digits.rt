@@ -6,7 +6,7 @@ ghost use Rattle.text.specs.Writing.{Writes};
 use crate::pages::put;
 
 // The case of the letters a to f.
-#[derive(Drop)]
+#[derive(Clone, Copy)]
 pub enum Case {
     Lower,
     Upper,

@@ -3,14 +3,14 @@ ghost use Rattle.std.specs.Prelude.{◌≡◌};
 ghost use Rattle.text.specs.Reading as Reading;
 
 // Whether the letters A to F are read besides a to f.
-#[derive(Drop)]
+#[derive(Clone, Copy)]
 pub enum Letters {
     LowerCase,
     EitherCase,
 }
 
 // What was read: a number, or a text that is not one.
-#[derive(Drop)]
+#[derive(Clone, Copy)]
 pub enum Read {
     Number(u32),
     NotHex,
