@@ -1,5 +1,6 @@
 // The manual's computations on numbers, without registers, PC or memory: sums, comparisons, logic, transfers and addresses.
 #![tactic(auto)]
+
 pub mod addresses;
 pub mod compares;
 pub mod logic;

@@ -1,5 +1,6 @@
 // The divide steps: document 000, sections 6.17 to 6.19, with document 01, "Instructions with corners", for DIV1.
 #![tactic(auto)]
+
 ghost use Rattle.std.specs.Prelude.{◌≡◌};
 ghost use Rattle.divide.specs.Divide as Divide;
 

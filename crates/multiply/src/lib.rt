@@ -1,5 +1,6 @@
 // Multiplications, and multiplications that add to MACH and MACL: document 000, sections 6.20, 6.21, 6.29, 6.31 and 6.38 to 6.40.
 #![tactic(auto)]
+
 ghost use Rattle.std.specs.Prelude.{◌≡◌, ◌+◌, ◌%◌, ◌^◌, ◌<◌};
 ghost use Rattle.std.specs.Int.Signed.{mag};
 ghost use Rattle.numbers.specs.Numbers.{signed};

@@ -1,5 +1,6 @@
 // Registers read as signed numbers, and signed numbers put back into registers (document 000, sections 3.1 and 6.1).
 #![tactic(auto)]
+
 ghost use Rattle.std.specs.Prelude.{◌≡◌};
 ghost use Rattle.numbers.specs.Numbers.{signed as signed_of, low_long, low_quad, overflows as overflows_of};
 

@@ -1,5 +1,6 @@
 // Shifts and rotates: document 000, sections 6.46 to 6.49 and 6.53 to 6.58.
 #![tactic(auto)]
+
 ghost use Rattle.std.specs.Prelude.{◌≡◌};
 ghost use Rattle.shifts.specs.Shifts as Shifts;
 
