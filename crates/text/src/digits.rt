@@ -44,6 +44,7 @@ pub fn hex(buffer: &mut [u8], at: usize, k: u32, n: u32) -> usize
 }
 
 // Decimal, of at most k digits.
+#[tactic(auto, using(crate::proofs::Figures::decimal_one))]
 pub fn decimal(buffer: &mut [u8], at: usize, k: u32, n: u32) -> usize
     ensures { Writes (Text.decimal k n) buffer.old at buffer.new result }
 {

@@ -1,5 +1,6 @@
 // Text, written into a lent buffer; and hexadecimal, read from one.
 #![tactic(auto)]
+
 mod digits;
 mod pages;
 mod reading;

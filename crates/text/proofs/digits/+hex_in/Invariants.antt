@@ -1,0 +1,5 @@
+-- `hex_in` calls itself with one digit fewer.
+use Rattle.text.proofs.digits.+hex_in.Given as goal
+
+abbrev pub decreases-hex_in : goal.decreases-hex_in
+decreases-hex_in l = l.k
