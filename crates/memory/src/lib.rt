@@ -1,5 +1,6 @@
 // Big-endian loads and stores of a byte, a word and a long over a lent memory, and the lengths that it may have (document 01, "Memory").
 #![tactic(auto)]
+
 ghost use Rattle.std.specs.Prelude.{◌≡◌, ◌<◌, length};
 ghost use Rattle.memory.specs.Access.{put, ByteAt};
 

@@ -1,7 +1,6 @@
 -- `Byte::accessible` tests the bound alone, since every address is a multiple of 1.
 -- Assumes nothing.
 use lib.Bits.{and_zero_r}
-use borrow.Author.Rules.{rules}
 use Rattle.memory.proofs.Tests.{aligned}
 use Rattle.memory.proofs.byte.Byte.accessible.Goals as goal
 

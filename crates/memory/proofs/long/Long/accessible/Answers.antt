@@ -1,6 +1,5 @@
 -- `Long::accessible` tests the bound of an address whose low two bits, under the mask, are zero: a multiple of 4.
 -- Assumes nothing.
-use borrow.Author.Rules.{rules}
 use Rattle.memory.proofs.Tests.{aligned, misaligned}
 use Rattle.memory.proofs.long.Long.accessible.Goals as goal
 

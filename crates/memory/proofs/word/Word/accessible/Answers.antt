@@ -1,6 +1,5 @@
 -- `Word::accessible` tests the bound of an address whose low bit, under the mask, is zero: a multiple of 2.
 -- Assumes nothing.
-use borrow.Author.Rules.{rules}
 use Rattle.memory.proofs.Tests.{aligned, misaligned}
 use Rattle.memory.proofs.word.Word.accessible.Goals as goal
 
