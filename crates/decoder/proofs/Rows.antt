@@ -32,6 +32,7 @@ how_many [] w = 0
 how_many (r ∷ rest) w = counted (row_matches w r) (how_many rest w)
 
 at : (f : Row → Bool) (rows : List Row) {q : Row} → T (every f rows) → Memᴰ q rows → T (f q)
+at f [] t h = elim h [ ]
 at f (r ∷ rest) t (Memᴰ.head e) = subst (λ z. T (f z)) (sym e) (left (f r) _ t)
 at f (r ∷ rest) t (Memᴰ.tail h) = at f rest (right (f r) _ t) h
 
@@ -104,6 +105,7 @@ module _ (w : Nibbles) where
     pub whichever :
         (rows : List Row) → T (all_apart f rows) → (q : Row) → Memᴰ q rows → T (row_matches w q) → among rows w ≡ row_means w q
     unfolding among
+    whichever [] t q h m = elim h [ ]
     whichever (r ∷ rest) t q (Memᴰ.head e) m =
         chosen _ _ (row_matches w r) (subst (λ z. T (row_matches w z)) e m) ∙ ap (row_means w) (sym e)
     whichever (r ∷ rest) t q (Memᴰ.tail h) m =

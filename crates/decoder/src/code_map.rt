@@ -9,6 +9,7 @@ use crate::meaning::{
 };
 
 // MAC.W is told here: with three operands it has another layout than the rest of its group, and the compiler keeps them apart so.
+#[tactic(auto, using(crate::proofs::Guards::mac_w))]
 pub fn decode(word: u16) -> Meaning
     ensures { result ≡ meaning word }
 {
@@ -112,6 +113,7 @@ fn group_0_8(word: u16) -> Meaning
     }
 }
 
+#[tactic(auto, using(crate::proofs::Guards::group_0_9_register))]
 fn group_0_9(word: u16) -> Meaning
     requires { (word / 4096 ≡ 0x0) × (word % 16 ≡ 0x9) }
     ensures { result ≡ meaning word }

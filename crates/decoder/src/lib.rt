@@ -1,5 +1,6 @@
 // What a 16-bit instruction word of the SH-2 means: document 000's code table (Table 5.9), as a function.
 #![tactic(auto)]
+
 mod code_map;
 mod meaning;
 

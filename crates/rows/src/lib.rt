@@ -1,5 +1,6 @@
 // The row number of an instruction: the place of its row in Table 5.9, counted from 0, and 142 for an undefined word.
 #![tactic(auto)]
+
 ghost use Rattle.std.specs.Prelude.{◌≡◌};
 ghost use Rattle.rows.specs.RowNumber.{row_number};
 
