@@ -2,7 +2,7 @@
 -- because it is not above the whole, a product because of its operands' widths.
 -- Assumes nothing.
 use mathlib.Core.Bool.{Bool, true, false, cond}
-use Prim.Native.Nat.{ℕ, ◌+◌, ◌-◌, ◌/◌, ◌%◌, ◌^◌, ◌<◌}
+use Prim.Native.Nat.{ℕ, ◌-◌, ◌/◌, ◌%◌, ◌^◌, ◌<◌}
 use native.Mathlib.Nat.{div-le_self, lt_of_le_of_lt, mod-lt}
 use native.Mathlib.Omega.{arith}
 use lib.Bits.{bit_and, and_le_l}
