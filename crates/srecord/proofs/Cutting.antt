@@ -1,11 +1,10 @@
 -- Laws of lines: a text cut byte by byte from where a line begins, and what stands before a line's end.
 -- Assumes nothing.
-use Rattle.std.proofs.Common.{◌≡◌, ℕ, suc, ◌+◌, ◌-◌, ◌<◌, ◌≤◌, eqb, List, [], ◌∷◌, ◌++◌, length, get_or, take, drop, sym, refl, ap, ◌∙◌, add-one, arith, drop_of_length-le, length-take-le, get_or-drop, drop-cons, get_or-take, take-suc, take-take, eq-eqb, ne_eqb}
-use mathlib.Core.Option.{Option, none, some}
+use Rattle.std.proofs.Common.{◌≡◌, ℕ, suc, ◌+◌, ◌-◌, ◌<◌, ◌≤◌, List, [], ◌∷◌, ◌++◌, length, get_or, take, drop, add-one, arith, drop_of_length-le, length-take-le, get_or-drop, drop-cons, get_or-take, take-suc, take-take, eq-eqb, ne_eqb}
+use mathlib.Core.Option.{none, some}
 use native.Mathlib.Nat.{sub_self}
 use lib.ListN.{get_or-eq_default}
-use Rattle.srecord.specs.Lines.{content, cut, ends_in, lines, without_last, without_return}
-use Rattle.srecord.specs.Promises.{LineAt}
+use Rattle.srecord.specs.Lines.{content, cut, lines, without_last, without_return}
 
 -- What stands from `at` to below i.
 abbrev pub begun : List ℕ → ℕ → ℕ → List ℕ

@@ -62,10 +62,10 @@ keeps_others marks i j inside clear other = go (eqb (j / 8) (i / 8)) refl
         rw (here, get_or-set_same marks (i / 8) _ 0 inside, bit_kept (i % 8) (j % 8) _ (unmarked _ clear) elsewhere)
     go false e = rw (get_or-set_other marks (i / 8) (j / 8) _ 0 (eqb-false (j / 8) (i / 8) e))
 
-with_mark :
+marked_with_mark :
     (marks : List ℕ) (i j : ℕ) → i / 8 < length marks → marked marks i ≡ false →
     marked (with_mark marks i) j ≡ (marked marks j || eqb j i)
-with_mark marks i j inside clear = go (eqb j i) refl
+marked_with_mark marks i j inside clear = go (eqb j i) refl
   where
     go : (same : Bool) → eqb j i ≡ same → marked (with_mark marks i) j ≡ (marked marks j || same)
     go true e = rw (eqb-true j i e, marks_one marks i inside clear, or-true)
@@ -130,7 +130,7 @@ module _ {before after : List ℕ} {wanted : ℕ → Bool} where
       record {
         taken = λ e. absurd (false≢true e);
         free = λ e j below w. free j below (eqb j i) refl (sym (more j) ∙ w);
-        now = λ e j below. with_mark after i j inside clear ∙ rw (m.now refl j below, more j, or_assoc);
+        now = λ e j below. marked_with_mark after i j inside clear ∙ rw (m.now refl j below, more j, or_assoc);
       }
     where
       free : (j : ℕ) → j < 229376 → (same : Bool) → eqb j i ≡ same → (wanted j || same) ≡ true → marked before j ≡ false

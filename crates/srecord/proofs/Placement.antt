@@ -1,18 +1,18 @@
 -- Laws of data written into the memory, byte by byte and line by line.
 -- Assumes nothing.
-use Rattle.std.proofs.Common.{◌≡◌, ℕ, suc, ◌+◌, ◌-◌, ◌*◌, ◌<◌, ◌≤◌, Bool, true, false, cond, eqb, List, [], ◌∷◌, map, length, get_or, take, drop, set, sym, refl, ap, ◌∙◌, le_refl, not-suc-le-zero, add-zero, add-one, arith, length-drop, drop_of_length-le, length-take, length-take-le, get_or-drop, take_all, drop-cons, get_or-take, take-take, take-add, drop_at, eqb-true}
+use Rattle.std.proofs.Common.{◌≡◌, ℕ, suc, ◌+◌, ◌-◌, ◌*◌, ◌<◌, ◌≤◌, Bool, true, false, cond, eqb, List, ◌∷◌, map, length, get_or, take, drop, set, sym, refl, ap, ◌∙◌, le_refl, not-suc-le-zero, add-zero, add-one, arith, length-drop, drop_of_length-le, length-take, length-take-le, get_or-drop, take_all, drop-cons, get_or-take, take-take, take-add, drop_at, eqb-true}
 use mathlib.Core.Bool.{and-eq-true_iff}
 use mathlib.Core.Option.{Option, none, some}
 use lib.Seq.{sets}
 use Rattle.text.specs.declared.reading.Read.TheVariants.{Number}
-use Rattle.srecord.specs.Lines.{content, cut, ends_in, lines, without_last}
+use Rattle.srecord.specs.Lines.{content, cut, ends_in, without_last}
 use Rattle.srecord.specs.Load.{placed, records}
 use Rattle.srecord.specs.Records.{Opening, Record, bytes_of, carried, data_for, data_of, fits, may, opening_of, record_of}
 use Rattle.srecord.specs.Promises.{ByteAt, LineAt, ended, length_for, opened, pair_at, placed_by, with_bytes}
 use Rattle.srecord.specs.declared.openings.Kind.{Kind}
 use Rattle.srecord.specs.declared.openings.Kind.TheVariants.{Header, Data, Count, Closing}
 use Rattle.srecord.proofs.Pairs.{never, pair_of, twice_as_long}
-use Rattle.srecord.proofs.Summaries.{length_for, may_least}
+use Rattle.srecord.proofs.Summaries.{length_for_data, may_least}
 
 -- What is left to write of n bytes behind the first i.
 abbrev pub StillPlaces : List ℕ → ℕ → ℕ → List ℕ → ℕ → ℕ → List ℕ → Type 0
@@ -207,4 +207,4 @@ module _ (line : List ℕ) (r : Record) (is : record_of line ≡ some r) where
         let least = r.opening.width + 1 in
         let all : length (carried r) ≡ count - least =
         rw (← seen) (length-take-le (count - least) (drop least r.bytes) (rw (length-drop least r.bytes) (omega (arith, counted)))) in
-        rw (← all) (length_for r.opening.kind (carried r))
+        rw (← all) (length_for_data r.opening.kind (carried r))

@@ -97,19 +97,19 @@ bytes_take (suc n) (byte ∷ l) h = bytes_cons byte (take n l) (h 0) (bytes_take
 pub bytes_drop : (n : ℕ) (l : List ℕ) → Bytes l → Bytes (drop n l)
 bytes_drop n l h i = rw (get_or-drop n l i) (h (n + i))
 
-bytes_in : (k n : ℕ) → Bytes (bytes_in k n)
-bytes_in zero n = bytes_none
-bytes_in (suc k) n =
+bytes_of_number : (k n : ℕ) → Bytes (bytes_in k n)
+bytes_of_number zero n = bytes_none
+bytes_of_number (suc k) n =
     let small : n % 256 < 256 = omega arith in
-    bytes_both (bytes_in k (n / 256)) (n % 256 ∷ []) (bytes_in k (n / 256)) (bytes_cons (n % 256) [] small bytes_none)
+    bytes_both (bytes_in k (n / 256)) (n % 256 ∷ []) (bytes_of_number k (n / 256)) (bytes_cons (n % 256) [] small bytes_none)
 
-line_bytes : (a : ℕ) (bytes : List ℕ) → Bytes bytes → length bytes ≤ 16 → Bytes (line_bytes a bytes)
-line_bytes a bytes small short =
+bytes_of_line : (a : ℕ) (bytes : List ℕ) → Bytes bytes → length bytes ≤ 16 → Bytes (line_bytes a bytes)
+bytes_of_line a bytes small short =
     let all = counted a bytes in
     let count : 4 + length bytes + 1 < 256 = omega arith in
     let check : check_byte all < 256 = omega arith in
     bytes_both all (check_byte all ∷ [])
-    (bytes_cons (4 + length bytes + 1) (bytes_in 4 a ++ bytes) count (bytes_both (bytes_in 4 a) bytes (bytes_in 4 a) small))
+    (bytes_cons (4 + length bytes + 1) (bytes_in 4 a ++ bytes) count (bytes_both (bytes_in 4 a) bytes (bytes_of_number 4 a) small))
     (bytes_cons (check_byte all) [] check bytes_none)
 
 abbrev pub record_with : Opening → ℕ → List ℕ → Record
@@ -139,12 +139,12 @@ data_back :
 unfolding line_of
 data_back a bytes small short =
     let least : 5 ≤ 4 + length bytes + 1 = omega arith in
-    back 83 51 data_opening (line_bytes a bytes) refl refl refl (line_bytes a bytes small short)
+    back 83 51 data_opening (line_bytes a bytes) refl refl refl (bytes_of_line a bytes small short)
     ∙ rw (eq-eqb _ _ (long a bytes), le-leb _ _ least)
 
 closing_back : record_of (line_of (ascii "S7") 0 []) ≡ some (record_with closing_opening 0 [])
 unfolding line_of
-closing_back = back 83 55 closing_opening (line_bytes 0 []) refl refl refl (line_bytes 0 [] bytes_none (lit≤ tt))
+closing_back = back 83 55 closing_opening (line_bytes 0 []) refl refl refl (bytes_of_line 0 [] bytes_none (lit≤ tt))
 
 -- A line before other text.
 line_cut :

@@ -1,7 +1,7 @@
 -- What `export` writes, `load` takes back: into every memory of the same length, to the same bytes. (`Bytes`: each is below 256, as in
 -- every lent memory.)
 -- Assumes nothing.
-use Rattle.std.proofs.Common.{◌≡◌, ℕ, zero, suc, ◌+◌, ◌-◌, ◌/◌, ◌%◌, ◌^◌, ◌<◌, ◌≤◌, min, max, Bool, true, false, cond, ◌&&◌, eqb, ltb, List, [], ◌∷◌, ◌++◌, length, take, drop, sym, refl, ap, ◌∙◌, subst, append_assoc, le_trans, arith, length-append, length-drop, take-append-drop, length-take, le-ltb, eq-eqb}
+use Rattle.std.proofs.Common.{◌≡◌, ℕ, zero, suc, ◌+◌, ◌/◌, ◌%◌, ◌^◌, ◌<◌, ◌≤◌, min, max, Bool, true, false, cond, ◌&&◌, eqb, ltb, List, [], ◌∷◌, ◌++◌, length, take, drop, sym, refl, ap, ◌∙◌, subst, append_assoc, le_trans, arith, length-append, length-drop, take-append-drop, length-take, le-ltb, eq-eqb}
 use mathlib.Core.Option.{Option, some}
 use lib.Seq.{drop-append-add, sets, sets-eq, take-append_seam}
 use Rattle.memory.proofs.Acceptance.{accepted_size}

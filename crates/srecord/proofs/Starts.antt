@@ -1,6 +1,6 @@
 -- Laws of openings: a line's first two bytes compared with two others.
 -- Assumes nothing.
-use Rattle.std.proofs.Common.{◌≡◌, ℕ, zero, suc, ◌<◌, ◌≤◌, Bool, true, false, cond, ◌&&◌, eqb, ltb, leb, List, [], ◌∷◌, length, get_or, take, sym, refl, ap, ◌∙◌, not-suc-le-zero, arith, ltb-false, ltb-true, leb-true}
+use Rattle.std.proofs.Common.{◌≡◌, ℕ, ◌<◌, ◌≤◌, Bool, true, false, cond, ◌&&◌, eqb, ltb, leb, List, [], ◌∷◌, length, take, sym, refl, ap, ◌∙◌, not-suc-le-zero, arith, ltb-false, ltb-true, leb-true}
 use mathlib.Core.Bool.{and-eq-true_iff, and-false, and-true}
 use mathlib.Core.Option.{Option, none, some}
 use Rattle.srecord.specs.Records.{Opening, among, opening_of, openings, same}

@@ -1,11 +1,10 @@
 -- What the code keeps of a record, from the bytes of its digits.
 -- Assumes nothing.
-use Rattle.std.proofs.Common.{◌≡◌, ℕ, zero, suc, ◌+◌, ◌-◌, ◌*◌, ◌/◌, ◌%◌, ◌<◌, ◌≤◌, min, Bool, true, false, cond, ◌&&◌, eqb, leb, List, [], ◌∷◌, length, get_or, take, drop, sym, refl, ap, ◌∙◌, arith, length-drop, length-take-le, eq-eqb, ne_eqb, eqb-true, leb-true}
-use mathlib.Core.Bool.{and-false}
+use Rattle.std.proofs.Common.{◌≡◌, ℕ, ◌+◌, ◌-◌, ◌/◌, ◌%◌, ◌<◌, ◌≤◌, true, false, eqb, List, length, get_or, drop, sym, refl, ap, ◌∙◌, arith, length-drop, length-take-le, eq-eqb, ne_eqb, eqb-true, leb-true}
 use mathlib.Core.Option.{Option, none, some}
-use Rattle.srecord.specs.Records.{Opening, Record, address, bytes_of, carried, data_for, data_of, fits, may}
+use Rattle.srecord.specs.Records.{Opening, Record, bytes_of, carried, data_for, fits, may}
 use Rattle.srecord.specs.Load.{sum}
-use Rattle.srecord.specs.Promises.{ByteAt, NumberAt, length_for, parsed_of, summary, total_of, with_bytes}
+use Rattle.srecord.specs.Promises.{ByteAt, NumberAt, length_for, parsed_of, total_of, with_bytes}
 use Rattle.srecord.specs.declared.openings.Kind.{Kind}
 use Rattle.srecord.specs.declared.openings.Kind.TheVariants.{Header, Data, Count, Closing}
 use Rattle.srecord.specs.declared.records.Parsed.TheVariants as parsed
@@ -28,11 +27,11 @@ may_least Data least count e = leb-true least count e
 may_least Count least count e = let same : count ≡ least = eqb-true count least e in omega arith
 may_least Closing least count e = let same : count ≡ least = eqb-true count least e in omega arith
 
-pub length_for : (kind : Kind) (bytes : List ℕ) → length_for kind (length bytes) ≡ length (data_for kind bytes)
-length_for Header bytes = refl
-length_for Data bytes = refl
-length_for Count bytes = refl
-length_for Closing bytes = refl
+pub length_for_data : (kind : Kind) (bytes : List ℕ) → length_for kind (length bytes) ≡ length (data_for kind bytes)
+length_for_data Header bytes = refl
+length_for_data Data bytes = refl
+length_for_data Count bytes = refl
+length_for_data Closing bytes = refl
 
 abbrev opens : List ℕ → Kind → ℕ → Opening
 opens start kind width = record { start = start; kind = kind; width = width }
@@ -81,4 +80,4 @@ module _ (digits bytes : List ℕ) (known : bytes_of digits ≡ some bytes) wher
             parsed_of (with_bytes (opens start kind width) (bytes_of digits))
         is_record {n} {s} e number summed =
             let fit : fits (opens start kind width) bytes ≡ true = rw (equal, sym counted, e) in
-            rw (known, fit, sym (length_for kind (carried r)), carried_length (may_least kind (width + 1) count e), sym (number.reads bytes known), sym summed)
+            rw (known, fit, sym (length_for_data kind (carried r)), carried_length (may_least kind (width + 1) count e), sym (number.reads bytes known), sym summed)

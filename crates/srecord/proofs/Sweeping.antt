@@ -1,9 +1,9 @@
 -- Laws of one sweep over the lines, line by line.
 -- Assumes nothing.
-use Rattle.std.proofs.Common.{◌≡◌, ℕ, ◌+◌, ◌-◌, ◌≤◌, Bool, true, false, cond, List, [], ◌∷◌, map, length, take, drop, sym, refl, ap, ◌∙◌, arith, drop_of_length-le, eq-eqb, ne_eqb}
+use Rattle.std.proofs.Common.{◌≡◌, ℕ, ◌+◌, ◌-◌, ◌≤◌, Bool, true, false, cond, List, ◌∷◌, map, length, take, drop, refl, ap, arith, drop_of_length-le, eq-eqb, ne_eqb}
 use mathlib.Core.Option.{Option, none, some}
 use Rattle.memory.specs.Lengths.{first}
-use Rattle.srecord.specs.Lines.{cut, lines}
+use Rattle.srecord.specs.Lines.{cut}
 use Rattle.srecord.specs.Records.{Record, is_data, record_of}
 use Rattle.srecord.specs.Load.{records}
 use Rattle.srecord.specs.Promises.{LineAt, finding, noted, parsed_of, single_tests, summary, swept}

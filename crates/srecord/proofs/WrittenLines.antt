@@ -140,17 +140,17 @@ line_done memory b at place {k} inside e done =
           (both b (line_of (ascii "S3") at (take 16 l)) (lines_from memory (at + 16)) place),
     )
 
-pub lines_length :
+pub s3_lines_length :
     (n address : ℕ) (memory : List ℕ) → n ≡ (length memory + 15) / 16 → length (s3_lines n address memory) ≡ 2 * length memory + 15 * n
 unfolding s3_lines
-lines_length zero address memory e = omega arith
-lines_length (suc n) address memory e =
+s3_lines_length zero address memory e = omega arith
+s3_lines_length (suc n) address memory e =
     let line = line_of (ascii "S3") address (take 16 memory) in
     let whole : length (take 16 memory) + length (drop 16 memory) ≡ length memory =
     sym (length-append (take 16 memory) (drop 16 memory)) ∙ ap length (take-append-drop 16 memory) in
     let fewer : n ≡ (length (drop 16 memory) + 15) / 16 = omega (arith, length-drop 16 memory) in
     length-append line (s3_lines n (address + 16) (drop 16 memory))
-    ∙ rw (line_length (ascii "S3") address (take 16 memory), lines_length n (address + 16) (drop 16 memory) fewer)
+    ∙ rw (line_length (ascii "S3") address (take 16 memory), s3_lines_length n (address + 16) (drop 16 memory) fewer)
     (omega (arith, whole))
 
 -- The length of the text, exactly.
@@ -159,4 +159,4 @@ unfolding exported
 exported_length memory =
     let n = (length memory + 15) / 16 in
     length-append (s3_lines n 0 memory) (line_of (ascii "S7") 0 [])
-    ∙ rw (lines_length n 0 memory refl, line_length (ascii "S7") 0 [])
+    ∙ rw (s3_lines_length n 0 memory refl, line_length (ascii "S7") 0 [])

@@ -1,5 +1,6 @@
 // Motorola S-record text, read into a lent memory and written into a lent buffer (document 02, request One).
 #![tactic(auto)]
+
 mod exporting;
 mod lines;
 mod marks;

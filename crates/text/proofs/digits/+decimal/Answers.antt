@@ -1,4 +1,5 @@
 -- `decimal` writes one digit, or the digits before the last by a call of itself with one digit fewer, and then the last.
+-- Assumes nothing.
 use Rattle.std.proofs.Common.{sym, arith}
 use native.Mathlib.Nat.{pos_of_ne-zero}
 use Rattle.text.proofs.Figures.{decimal_last, decimal_none}

@@ -1,4 +1,5 @@
 -- `decimal` calls itself with one digit fewer.
+-- Assumes nothing.
 use Rattle.text.proofs.digits.+decimal.Given as goal
 
 abbrev pub decreases-decimal : goal.decreases-decimal

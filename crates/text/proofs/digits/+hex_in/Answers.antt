@@ -1,4 +1,5 @@
 -- `hex_in` writes the digits before the last by a call of itself with one digit fewer, and then the last.
+-- Assumes nothing.
 use Rattle.std.proofs.Common.{sym}
 use native.Mathlib.Nat.{pos_of_ne-zero}
 use Rattle.text.proofs.Figures.{hex_last, hex_none}

@@ -1,4 +1,5 @@
 -- `hex_in` calls itself with one digit fewer.
+-- Assumes nothing.
 use Rattle.text.proofs.digits.+hex_in.Given as goal
 
 abbrev pub decreases-hex_in : goal.decreases-hex_in

@@ -1,4 +1,5 @@
 -- `put` tries whether there is room.
+-- Assumes nothing.
 use borrow.Author.Tests.{le-ltb, lt-ltb}
 use Rattle.text.specs.Writing.{write}
 use Rattle.text.proofs.pages.put.Goals as goal

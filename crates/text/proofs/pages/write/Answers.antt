@@ -1,4 +1,5 @@
 -- What `write` has still to write, written from where it stands, is the text written from where it began.
+-- Assumes nothing.
 use Rattle.std.proofs.Common.{◌∙◌}
 use Rattle.text.proofs.Writes.{next, past}
 use Rattle.text.proofs.pages.write.Goals as goal

@@ -1,4 +1,5 @@
 -- `digit_value` tries the ranges of the digits' characters in turn.
+-- Assumes nothing.
 use Rattle.std.proofs.Common.{◌≡◌, ◌∙◌, sym, true, false}
 use Rattle.text.specs.Reading.{between, digit_value}
 use Rattle.text.proofs.reading.digit_value.Goals as goal

@@ -1,4 +1,5 @@
 -- What `hex_value` has still to read, behind the number so far, gives what the k digits give.
+-- Assumes nothing.
 use Rattle.std.proofs.Common.{◌+◌, ◌<◌, ◌≤◌, ◌∙◌, length, arith}
 use borrow.Author.Tests.{le-ltb}
 use Rattle.text.proofs.Values.{breaks_off, digit_small, ends, reads_on}

@@ -1,4 +1,5 @@
 -- What `hex_value` has still to read, behind the number so far, gives what the k digits give.
+-- Assumes nothing.
 use Rattle.std.proofs.Common.{◌≡◌, ◌-◌, ◌^◌, ◌<◌, ◌≤◌, drop, take}
 use Rattle.text.specs.Reading.{cut_to_long, read_on, value}
 use Rattle.text.proofs.Values.{still}

@@ -1,4 +1,5 @@
 -- `is_digit` tries the three ranges of the digits' characters, and takes one of them.
+-- Assumes nothing.
 use Rattle.text.proofs.Values.{one_of_three}
 use Rattle.text.proofs.reading.is_digit.Goals as goal
 
