@@ -1,0 +1,34 @@
+-- `multiply_add` reads both operands, steps both registers on and adds up, or faults with nothing changed.
+-- Assumes nothing.
+use Rattle.std.proofs.Common.{sym, refl, set-set, rules}
+use lib.Seq.{set-get_or}
+use Rattle.arithmetic.specs.Addresses.{following}
+use Rattle.instructions.specs.Promises.{state}
+use Rattle.instructions.specs.State.{with_mac, with_sr}
+use Rattle.instructions.proofs.Families.{multiply_add}
+use Rattle.instructions.proofs.Answers.{met}
+use Rattle.memory_instructions.proofs.accumulate.multiply_add.Goals as goal
+
+pub returns-in-Value-operand : goal.returns-in-Value-operand
+returns-in-Value-operand c =
+    λ k.
+    let a = c.args in
+    let s = state a.r.now (with_sr a.sr (with_mac a.mach.now a.macl.now k)) a.memory.now in
+    let kb = c.operand_bytes-k.ensures in
+    rw (multiply_add a.operation a.m a.n (following s.control.pc) s, met c.operand.ensures c.in-Value.is, sym kb, sym c.wrapping_add_u32.ensures.value, kb, met c.operand-in-Value.ensures c.in-Value-operand.is, c.accumulated-sum.ensures, c.wrapping_add_u32-in-Value-operand.ensures.value, kb)
+
+pub returns-in-Fault-operand : goal.returns-in-Fault-operand
+returns-in-Fault-operand c =
+    λ k.
+    let a = c.args in
+    let s = state a.r.now (with_sr a.sr (with_mac a.mach.now a.macl.now k)) a.memory.now in
+    let kb = c.operand_bytes-k.ensures in
+    rw (multiply_add a.operation a.m a.n (following s.control.pc) s, met c.operand.ensures c.in-Value.is, sym kb, sym c.wrapping_add_u32.ensures.value, kb, met c.operand-in-Value.ensures c.in-Fault-operand.is, set-set a.r.now _ _ _, set-get_or a.r.now _ _)
+
+pub returns-in-Fault : goal.returns-in-Fault
+returns-in-Fault c =
+    λ k.
+    let a = c.args in
+    let s = state a.r.now (with_sr a.sr (with_mac a.mach.now a.macl.now k)) a.memory.now in
+    let kb = c.operand_bytes-k.ensures in
+    rw (multiply_add a.operation a.m a.n (following s.control.pc) s, met c.operand.ensures c.in-Fault.is)
