@@ -1,5 +1,6 @@
 // One instruction: its effect on registers and memory, and where it leads. A function for each shape does the work.
 #![tactic(auto)]
+
 ghost use Rattle.std.specs.Prelude.{◌≡◌, true, ℕ};
 ghost use Rattle.decoder.specs.Slot.{rewrites_pc};
 ghost use Rattle.instructions.specs.Promises.{Attempts};
