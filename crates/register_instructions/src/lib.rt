@@ -1,4 +1,5 @@
 // The instructions that work on registers alone.
 #![tactic(auto)]
+
 pub mod registers;
 mod results;

@@ -11,6 +11,7 @@ use decoder::{
 };
 use instructions::{Control, Flow, with_mqt, with_t};
 
+#[tactic(auto, unfolding(instructions::specs::Execute::execute))]
 pub fn no_operand(operation: NoOperand, sr: &mut u32, mach: &mut u32, macl: &mut u32) -> Flow
     ensures { (c : Control) (r memory : List ℕ) → Performs (Meaning.NoOperand operation) (with_sr sr.old (with_mac mach.old macl.old c)) r memory result (with_sr sr.new (with_mac mach.new macl.new c)) r memory }
 {
@@ -72,6 +73,7 @@ pub fn compare_zero(operation: CompareZero, n: u8, sr: &mut u32, r: &[u32; 16])
     *sr = with_t(*sr, results::of_compare_zero(operation, r[into]));
 }
 
+#[tactic(auto, unfolding(instructions::specs::Execute::execute))]
 pub fn divide(operation: Divide, m: u8, n: u8, sr: &mut u32, r: &mut [u32; 16])
     ensures { Computes (Meaning.Divide operation m n) sr.old r.old sr.new r.new }
 {
@@ -92,6 +94,7 @@ pub fn divide(operation: Divide, m: u8, n: u8, sr: &mut u32, r: &mut [u32; 16])
     }
 }
 
+#[tactic(auto, unfolding(instructions::specs::Execute::execute))]
 pub fn multiply(operation: Multiply, m: u8, n: u8, mach: &mut u32, macl: &mut u32, r: &[u32; 16])
     ensures { (c : Control) (memory : List ℕ) → Performs (Meaning.Multiply operation m n) (with_mac mach.old macl.old c) r.now memory Flow.Next (with_mac mach.new macl.new c) r.now memory }
 {
@@ -116,6 +119,7 @@ pub fn multiply(operation: Multiply, m: u8, n: u8, mach: &mut u32, macl: &mut u3
     }
 }
 
+#[tactic(auto, unfolding(instructions::specs::Execute::execute))]
 pub fn immediate(operation: Immediate, i: u8, n: u8, r: &mut [u32; 16])
     ensures { (c : Control) (memory : List ℕ) → Performs (Meaning.Immediate operation i n) c r.old memory Flow.Next c r.new memory }
 {
@@ -127,6 +131,7 @@ pub fn immediate(operation: Immediate, i: u8, n: u8, r: &mut [u32; 16])
     }
 }
 
+#[tactic(auto, unfolding(instructions::specs::Execute::execute))]
 pub fn immediate_r0(operation: ImmediateR0, i: u8, sr: &mut u32, r: &mut [u32; 16])
     ensures { Computes (Meaning.ImmediateR0 operation i) sr.old r.old sr.new r.new }
 {

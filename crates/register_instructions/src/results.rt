@@ -8,6 +8,7 @@ use decoder::{Compare, CompareZero, Meaning, OneRegister, TwoRegisters};
 use numbers::WithT;
 
 // From Rm, Rn and T.
+#[tactic(auto, unfolding(instructions::specs::Execute::execute))]
 pub fn of_two_registers(operation: TwoRegisters, a: u32, b: u32, t: u32) -> WithT
     ensures { Gives (λ m n. Meaning.TwoRegisters operation m n) a b t result }
 {
@@ -36,6 +37,7 @@ pub fn of_two_registers(operation: TwoRegisters, a: u32, b: u32, t: u32) -> With
 }
 
 // From Rn and T.
+#[tactic(auto, unfolding(instructions::specs::Execute::execute))]
 pub fn of_one_register(operation: OneRegister, b: u32, t: u32) -> WithT
     ensures { (a : ℕ) → Gives (λ m n. Meaning.OneRegister operation n) a b t result }
 {
@@ -60,6 +62,7 @@ pub fn of_one_register(operation: OneRegister, b: u32, t: u32) -> WithT
 }
 
 // T, from Rm and Rn.
+#[tactic(auto, unfolding(instructions::specs::Execute::execute))]
 pub fn of_compare(operation: Compare, a: u32, b: u32) -> u32
     ensures { Tells (λ m n. Meaning.Compare operation m n) a b result }
 {
@@ -75,6 +78,7 @@ pub fn of_compare(operation: Compare, a: u32, b: u32) -> u32
 }
 
 // T, from Rn.
+#[tactic(auto, unfolding(instructions::specs::Execute::execute))]
 pub fn of_compare_zero(operation: CompareZero, b: u32) -> u32
     ensures { (a : ℕ) → Tells (λ m n. Meaning.CompareZero operation n) a b result }
 {
