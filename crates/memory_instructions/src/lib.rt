@@ -1,5 +1,6 @@
 // The instructions that read or write memory, and those that move a control or system register: LDC, LDS, STC and STS.
 #![tactic(auto)]
+
 mod accesses;
 pub mod accumulate;
 pub mod byte_logic;

@@ -1,13 +1,19 @@
 -- `multiply_add` reads both operands, steps both registers on and adds up, or faults with nothing changed.
 -- Assumes nothing.
-use Rattle.std.proofs.Common.{sym, refl, set-set, rules}
+use Rattle.std.proofs.Common.{◌≡◌, ◌∙◌, ◌%◌, ℕ, List, ap, get_or, set, sym, set-set}
 use lib.Seq.{set-get_or}
 use Rattle.arithmetic.specs.Addresses.{following}
 use Rattle.instructions.specs.Promises.{state}
 use Rattle.instructions.specs.State.{with_mac, with_sr}
+use Rattle.instructions.specs.Shapes.{leads}
+use Rattle.instructions.specs.declared.control.Flow.TheVariants.{Fault}
 use Rattle.instructions.proofs.Families.{multiply_add}
 use Rattle.instructions.proofs.Answers.{met}
 use Rattle.memory_instructions.proofs.accumulate.multiply_add.Goals as goal
+
+-- An element that was written over and is set back leaves the list as it was.
+set_back : (xs : List ℕ) (i x : ℕ) → xs ≡ set (set xs i x) i (get_or xs i 0)
+set_back xs i x = sym (set-set xs i x (get_or xs i 0) ∙ set-get_or xs i 0)
 
 pub returns-in-Value-operand : goal.returns-in-Value-operand
 returns-in-Value-operand c =
@@ -15,7 +21,17 @@ returns-in-Value-operand c =
     let a = c.args in
     let s = state a.r.now (with_sr a.sr (with_mac a.mach.now a.macl.now k)) a.memory.now in
     let kb = c.operand_bytes-k.ensures in
-    rw (multiply_add a.operation a.m a.n (following s.control.pc) s, met c.operand.ensures c.in-Value.is, sym kb, sym c.wrapping_add_u32.ensures.value, kb, met c.operand-in-Value.ensures c.in-Value-operand.is, c.accumulated-sum.ensures, c.wrapping_add_u32-in-Value-operand.ensures.value, kb)
+    rw (
+      multiply_add a.operation a.m a.n (following s.control.pc) s,
+      met c.operand.ensures c.in-Value.is,
+      sym kb,
+      sym c.wrapping_add_u32.ensures.value,
+      kb,
+      met c.operand-in-Value.ensures c.in-Value-operand.is,
+      c.accumulated-sum.ensures,
+      c.wrapping_add_u32-in-Value-operand.ensures.value,
+      kb,
+    )
 
 pub returns-in-Fault-operand : goal.returns-in-Fault-operand
 returns-in-Fault-operand c =
@@ -23,12 +39,19 @@ returns-in-Fault-operand c =
     let a = c.args in
     let s = state a.r.now (with_sr a.sr (with_mac a.mach.now a.macl.now k)) a.memory.now in
     let kb = c.operand_bytes-k.ensures in
-    rw (multiply_add a.operation a.m a.n (following s.control.pc) s, met c.operand.ensures c.in-Value.is, sym kb, sym c.wrapping_add_u32.ensures.value, kb, met c.operand-in-Value.ensures c.in-Fault-operand.is, set-set a.r.now _ _ _, set-get_or a.r.now _ _)
+    rw (
+      multiply_add a.operation a.m a.n (following s.control.pc) s,
+      met c.operand.ensures c.in-Value.is,
+      sym kb,
+      sym c.wrapping_add_u32.ensures.value,
+      kb,
+      met c.operand-in-Value.ensures c.in-Fault-operand.is,
+    )
+    (ap (λ x. leads Fault (state x s.control a.memory.now)) (set_back a.r.now (a.n % 16) c.wrapping_add_u32.result))
 
 pub returns-in-Fault : goal.returns-in-Fault
 returns-in-Fault c =
     λ k.
     let a = c.args in
     let s = state a.r.now (with_sr a.sr (with_mac a.mach.now a.macl.now k)) a.memory.now in
-    let kb = c.operand_bytes-k.ensures in
     rw (multiply_add a.operation a.m a.n (following s.control.pc) s, met c.operand.ensures c.in-Fault.is)

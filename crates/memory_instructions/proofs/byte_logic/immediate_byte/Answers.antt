@@ -1,7 +1,7 @@
 -- `immediate_byte` replaces the byte, or tells of it, or faults with nothing changed.
 -- Assumes nothing.
 use Rattle.instructions.specs.Execute.{execute}
-use Rattle.std.proofs.Common.{sym, refl, rules}
+use Rattle.std.proofs.Common.{sym}
 use Rattle.instructions.specs.State.{with_gbr, with_sr}
 use Rattle.instructions.proofs.Answers.{met}
 use Rattle.instructions.proofs.Families.{byte_failed}

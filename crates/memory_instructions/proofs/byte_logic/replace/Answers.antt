@@ -2,7 +2,6 @@
 -- Assumes nothing.
 use Rattle.instructions.proofs.Answers.{store_done, store_failed}
 use Rattle.instructions.specs.Promises.{state}
-use Rattle.std.proofs.Common.{rules}
 use Rattle.memory_instructions.proofs.byte_logic.replace.Goals as goal
 
 pub returns-in-Done : goal.returns-in-Done

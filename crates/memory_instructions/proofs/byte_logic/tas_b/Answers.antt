@@ -1,7 +1,7 @@
 -- `tas_b` sets the byte's top bit and tells whether it was 0, or faults with nothing changed.
 -- Assumes nothing.
 use Rattle.instructions.specs.Execute.{execute}
-use Rattle.std.proofs.Common.{eqb, sym, refl, rules}
+use Rattle.std.proofs.Common.{eqb, sym}
 use Rattle.numbers.specs.Numbers.{truth}
 use Rattle.instructions.specs.Promises.{state}
 use Rattle.instructions.specs.State.{changed, reg, with_sr, with_t}

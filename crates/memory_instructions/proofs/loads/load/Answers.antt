@@ -1,6 +1,6 @@
 -- `load` puts what was loaded into Rn, or faults with nothing changed.
 -- Assumes nothing.
-use Rattle.std.proofs.Common.{sym, refl, rules}
+use Rattle.std.proofs.Common.{sym}
 use Rattle.memory.specs.Access.{loaded}
 use Rattle.arithmetic.specs.Addresses.{following}
 use Rattle.instructions.specs.Promises.{bytes, extended, state}
@@ -24,4 +24,5 @@ returns-in-Fault c =
     let a = c.args in
     let s = state a.r.now (with_gbr a.gbr k) a.memory.now in
     rw (mov-load a.size a.address a.n (following s.control.pc) s, sym (c.effective.ensures k a.memory.now))
-    (load_failed a.size (loaded (bytes a.size) a.memory.now c.effective.result) (λ w. gives a.n (extended a.size w) s) s (met c.load.ensures c.in-Fault.is))
+    (load_failed a.size (loaded (bytes a.size) a.memory.now c.effective.result) (λ w. gives a.n (extended a.size w) s) s
+    (met c.load.ensures c.in-Fault.is))

@@ -7,7 +7,6 @@ use Rattle.instructions.specs.State.{reg}
 use Rattle.instructions.specs.Shapes.{gives, incremented}
 use Rattle.instructions.proofs.Families.{load_increment as mov-increment}
 use Rattle.instructions.proofs.Answers.{met, load_value, load_failed}
-use Rattle.std.proofs.Common.{rules}
 use Rattle.memory_instructions.proofs.loads.load_increment.Goals as goal
 
 pub returns-in-Value : goal.returns-in-Value
@@ -16,7 +15,8 @@ returns-in-Value c =
     let a = c.args in
     let s = state a.r.now (k) a.memory.now in
     rw (mov-increment a.size a.m a.n (following s.control.pc) s, c.wrapping_add_u32.ensures.value, c.bytes.ensures)
-    (load_value a.size (loaded (bytes a.size) a.memory.now (reg a.m s)) _ (λ w. gives a.n w (incremented (bytes a.size) a.m s)) s (met c.load.ensures c.in-Value.is))
+    (load_value a.size (loaded (bytes a.size) a.memory.now (reg a.m s)) _ (λ w. gives a.n w (incremented (bytes a.size) a.m s)) s
+    (met c.load.ensures c.in-Value.is))
 
 pub returns-in-Fault : goal.returns-in-Fault
 returns-in-Fault c =
@@ -24,4 +24,6 @@ returns-in-Fault c =
     let a = c.args in
     let s = state a.r.now (k) a.memory.now in
     rw (mov-increment a.size a.m a.n (following s.control.pc) s)
-    (load_failed a.size (loaded (bytes a.size) a.memory.now (reg a.m s)) (λ w. gives a.n (extended a.size w) (incremented (bytes a.size) a.m s)) s (met c.load.ensures c.in-Fault.is))
+    (load_failed a.size (loaded (bytes a.size) a.memory.now (reg a.m s))
+    (λ w. gives a.n (extended a.size w) (incremented (bytes a.size) a.m s)) s
+    (met c.load.ensures c.in-Fault.is))

@@ -1,7 +1,7 @@
 -- `relative` loads, or takes, the address that is counted from the PC.
 -- Assumes nothing.
 use Rattle.instructions.specs.Execute.{execute}
-use Rattle.std.proofs.Common.{sym, refl, rules}
+use Rattle.std.proofs.Common.{sym}
 use Rattle.instructions.proofs.Answers.{met}
 use Rattle.memory_instructions.proofs.loads.relative.Goals as goal
 

@@ -1,6 +1,6 @@
 -- `store` stores Rm, or faults with nothing changed.
 -- Assumes nothing.
-use Rattle.std.proofs.Common.{sym, refl, rules}
+use Rattle.std.proofs.Common.{sym}
 use Rattle.arithmetic.specs.Addresses.{following}
 use Rattle.instructions.specs.Promises.{bytes, state}
 use Rattle.instructions.specs.State.{with_gbr}

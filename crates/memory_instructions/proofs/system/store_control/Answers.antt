@@ -3,7 +3,6 @@
 use Rattle.arithmetic.specs.Addresses.{following}
 use Rattle.instructions.specs.Promises.{state}
 use Rattle.instructions.proofs.Families.{store_control}
-use Rattle.std.proofs.Common.{rules}
 use Rattle.memory_instructions.proofs.system.store_control.Goals as goal
 
 pub returns : goal.returns

@@ -1,6 +1,6 @@
 -- `store_control_long` stores the register below Rn and steps Rn back, or faults with nothing changed.
 -- Assumes nothing.
-use Rattle.std.proofs.Common.{sym, refl, rules}
+use Rattle.std.proofs.Common.{sym}
 use Rattle.arithmetic.specs.Addresses.{following}
 use Rattle.instructions.specs.Promises.{state}
 use Rattle.instructions.specs.State.{with_reg}

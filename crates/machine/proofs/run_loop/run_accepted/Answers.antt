@@ -1,0 +1,37 @@
+-- `run_accepted` takes steps while the budget lasts and the machine is not halted, which is what a run is.
+-- Assumes nothing.
+use Rattle.std.proofs.Common.{◌-◌, arith, rules}
+use Rattle.instructions.specs.Promises.{state}
+use Rattle.instructions.specs.State.{control}
+use Rattle.instructions.proofs.Answers.{met}
+use Rattle.machine.specs.Situation.{at}
+use Rattle.machine.proofs.Going.{Going, begins, ends_halted, ends_with_the_budget, goes_on}
+use Rattle.machine.proofs.run_loop.run_accepted.Goals as goal
+
+pub loop-taken-init : goal.loop-taken-init
+loop-taken-init c =
+    begins _ _
+
+pub advance-mode-requires : goal.advance-mode-requires
+advance-mode-requires c =
+    met c.halted.ensures c.if-halted.false
+
+pub overflow_add-taken : goal.overflow_add-taken
+overflow_add-taken c =
+    record { fits = omega (arith, c.loop-taken-test.true, c.ranges.budget.fits) }
+
+pub loop-taken-smaller : goal.loop-taken-smaller
+loop-taken-smaller c =
+    omega (arith, c.loop-taken-test.true)
+
+pub loop-taken-preserved : goal.loop-taken-preserved
+loop-taken-preserved c =
+    goes_on _ _ _ _ c.loop-taken.invariant _ c.loop-taken-test.true (met c.halted.ensures c.if-halted.false) c.advance-mode.ensures
+
+pub returns-after-loop-taken : goal.returns-after-loop-taken
+returns-after-loop-taken c =
+    rw (ends_with_the_budget _ _ _ _ c.loop-taken.invariant c.loop-taken-test.false)
+
+pub returns-then-halted : goal.returns-then-halted
+returns-then-halted c =
+    rw (ends_halted _ _ _ _ c.loop-taken.invariant (met c.halted.ensures c.if-halted.true))
