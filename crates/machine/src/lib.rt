@@ -1,5 +1,6 @@
 // The machine: its registers and its mode (document 01, "State"), what a call answers, and the calls.
 #![tactic(auto)]
+
 mod calls;
 mod exceptions;
 mod run_loop;

@@ -1,6 +1,5 @@
 -- `start` takes PC and R15 from the first two longs.
 -- Assumes nothing.
-use Rattle.std.proofs.Common.{rules}
 use Rattle.machine.proofs.Calling.{accepted_opens}
 use Rattle.machine.proofs.calls.start.Goals as goal
 

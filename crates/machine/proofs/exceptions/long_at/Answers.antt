@@ -2,7 +2,6 @@
 -- Assumes nothing.
 use Rattle.instructions.proofs.Answers.{met}
 use Rattle.machine.proofs.Entries.{never_fails, value_loaded}
-use Rattle.std.proofs.Common.{rules}
 use Rattle.machine.proofs.exceptions.long_at.Goals as goal
 
 pub returns-in-Value : goal.returns-in-Value

@@ -1,11 +1,8 @@
 -- `run_accepted` takes steps while the budget lasts and the machine is not halted, which is what a run is.
 -- Assumes nothing.
-use Rattle.std.proofs.Common.{◌-◌, arith, rules}
-use Rattle.instructions.specs.Promises.{state}
-use Rattle.instructions.specs.State.{control}
+use Rattle.std.proofs.Common.{arith}
 use Rattle.instructions.proofs.Answers.{met}
-use Rattle.machine.specs.Situation.{at}
-use Rattle.machine.proofs.Going.{Going, begins, ends_halted, ends_with_the_budget, goes_on}
+use Rattle.machine.proofs.Going.{begins, ends_halted, ends_with_the_budget, goes_on}
 use Rattle.machine.proofs.run_loop.run_accepted.Goals as goal
 
 pub loop-taken-init : goal.loop-taken-init

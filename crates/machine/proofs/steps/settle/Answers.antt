@@ -1,6 +1,6 @@
 -- `settle` moves the PC and the mode as the flow says; a delayed branch comes from a running machine alone.
 -- Assumes nothing.
-use Rattle.std.proofs.Common.{sym, rules}
+use Rattle.std.proofs.Common.{sym}
 use Rattle.instructions.specs.Promises.{state}
 use Rattle.instructions.specs.State.{control}
 use Rattle.machine.proofs.Settling.{delays_on}
