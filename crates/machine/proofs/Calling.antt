@@ -97,6 +97,13 @@ accepted_opens memory e =
     let second : 4 + 4 ≤ n = omega (arith, room) in
     (le-leb (0 + 4) n first, le-leb (4 + 4) n second)
 
+-- The PC's long and R15's, each by itself.
+pub pc_opens : (memory : List ℕ) → refused_length (length memory) ≡ 0 → accessible 4 memory 0 ≡ true
+pc_opens memory e = (accepted_opens memory e).0
+
+pub r15_opens : (memory : List ℕ) → refused_length (length memory) ≡ 0 → accessible 4 memory 4 ≡ true
+r15_opens memory e = (accepted_opens memory e).1
+
 pub step_is_a_run_of_1 : (x : Situation) → run 1 x ≡ stepped x
 unfolding run step
 step_is_a_run_of_1 x = go (halted x) _

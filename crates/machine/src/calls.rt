@@ -47,6 +47,7 @@ pub fn reset(memory: &[u8]) -> Answer
     }
 }
 
+#[tactic(auto, using(crate::proofs::Calling::pc_opens, crate::proofs::Calling::r15_opens))]
 fn start(machine: Machine, memory: &[u8]) -> Machine
     requires { refused_length (length memory.now) ≡ 0 }
     ensures { result ≡ Calls.start machine memory.now }
