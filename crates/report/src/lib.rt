@@ -1,5 +1,6 @@
 // From an image to the runner's text (document 01, "The runner"), in a lent buffer.
 #![tactic(auto)]
+
 mod lines;
 mod outcomes;
 
