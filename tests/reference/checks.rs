@@ -1,5 +1,5 @@
 //! What document 01 fixes in figures, compared with this interpreter.
-//! Run: rustc -O --edition 2021 --test tests/reference/main.rs -o target/reference-checks && target/reference-checks
+//! Run: mkdir -p target && rustc -O --edition 2021 --test tests/reference/main.rs -o target/reference-checks && target/reference-checks
 
 use crate::codes::{rows, REWRITES_PC};
 use crate::corpus::{reports, write};

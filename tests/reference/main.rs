@@ -1,5 +1,5 @@
 //! An interpreter of the SH-2 written from the manual, to compare others with.
-//! Build: rustc -O --edition 2021 tests/reference/main.rs -o target/reference
+//! Build: mkdir -p target && rustc -O --edition 2021 tests/reference/main.rs -o target/reference
 
 mod arithmetic;
 mod branch;

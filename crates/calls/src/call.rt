@@ -2,6 +2,7 @@
 use crate::given::Situation;
 use crate::lines;
 use machine::{Answer, Machine};
+use std::io;
 
 #[derive(Clone, Copy)]
 pub enum Call {
@@ -12,24 +13,29 @@ pub enum Call {
 }
 
 // Gives what the call left.
-pub fn make(call: Call, given: Situation) -> Situation {
-    make_over(1024, call, given)
+pub fn make(rt: &impl Print, call: Call, given: Situation) -> io::Result<Situation> {
+    make_over(rt, 1024, call, given)
 }
 
 // The same, with no more than so many bytes of the image lent.
-pub fn make_over(length: usize, call: Call, given: Situation) -> Situation {
+pub fn make_over(
+    rt: &impl Print,
+    length: usize,
+    call: Call,
+    given: Situation,
+) -> io::Result<Situation> {
     let machine = given.machine;
     let image = given.image;
     let mut memory = given.image;
     let answer = answer_over(length, call, machine, &mut memory);
-    lines::handed(call, machine, length);
-    lines::gave(call, answer, machine);
-    lines::left(&memory, &image);
+    lines::handed(rt, call, machine, length)?;
+    lines::gave(rt, call, answer, machine)?;
+    lines::left(rt, &memory, &image)?;
     let after = answer.machine;
-    Situation {
+    Ok(Situation {
         image: memory,
         machine: after,
-    }
+    })
 }
 
 fn answer_over(length: usize, call: Call, given: Machine, memory: &mut [u8]) -> Answer {

@@ -1,142 +1,135 @@
 // A call's line: what it was handed and, after a colon, what it gave.
 use crate::call::Call;
 use instructions::Control;
-use libc::STDOUT_FILENO;
 use machine::{Answer, Machine, Mode};
 use memory::{Loaded, Long};
+use std::io;
 
 const GENERAL_REGISTERS: usize = 16;
 
 const LENGTH: u32 = 1024;
 
 // Stands above the calls that it is true of.
-pub fn heading(line: &[u8]) {
-    text(line);
-    text(b"\n");
+pub fn heading(rt: &impl Print, line: &str) -> io::Result<()> {
+    text(rt, line)?;
+    text(rt, "\n")
 }
 
 // Reset is handed no state: the state given is the blank one, which a refused reset returns.
-pub fn handed(call: Call, given: Machine, length: usize) {
+pub fn handed(rt: &impl Print, call: Call, given: Machine, length: usize) -> io::Result<()> {
     match call {
         Call::Reset => {
-            text(b"reset");
+            text(rt, "reset")?;
         }
         Call::Step => {
-            text(b"step from ");
-            state(given);
+            text(rt, "step from ")?;
+            state(rt, given)?;
         }
         Call::Run(budget) => {
-            text(b"run ");
-            decimal(budget as u64);
-            text(b" from ");
-            state(given);
+            text(rt, "run ")?;
+            decimal(rt, budget as u64)?;
+            text(rt, " from ")?;
+            state(rt, given)?;
         }
     }
-    text(b" over ");
-    decimal(length as u64);
-    text(b" bytes: ");
+    text(rt, " over ")?;
+    decimal(rt, length as u64)?;
+    text(rt, " bytes: ")
 }
 
-fn state(machine: Machine) {
+fn state(rt: &impl Print, machine: Machine) -> io::Result<()> {
     let mode = machine.mode;
-    mode_text(mode);
-    text(b", pc ");
-    hex(machine.control.pc);
-    text(b", sr ");
-    hex(machine.control.sr);
+    mode_text(rt, mode)?;
+    text(rt, ", pc ")?;
+    hex(rt, machine.control.pc)?;
+    text(rt, ", sr ")?;
+    hex(rt, machine.control.sr)
 }
 
-fn mode_text(mode: Mode) {
+fn mode_text(rt: &impl Print, mode: Mode) -> io::Result<()> {
     match mode {
-        Mode::Running => {
-            text(b"running");
-        }
+        Mode::Running => text(rt, "running"),
         Mode::Slot(target) => {
-            text(b"slot, target ");
-            hex(target);
+            text(rt, "slot, target ")?;
+            hex(rt, target)
         }
-        Mode::Asleep => {
-            text(b"asleep");
-        }
+        Mode::Asleep => text(rt, "asleep"),
         Mode::Stopped(reason) => {
-            text(b"stopped ");
-            decimal(reason.number() as u64);
+            text(rt, "stopped ")?;
+            decimal(rt, reason.number() as u64)
         }
     }
 }
 
 // Besides PC and SR, the registers that are not as given are named.
-pub fn gave(call: Call, answer: Answer, given: Machine) {
+pub fn gave(rt: &impl Print, call: Call, answer: Answer, given: Machine) -> io::Result<()> {
     let refusal = answer.refusal;
     let number = refusal.number();
     if number == 0 {
-        text(b"accepted");
+        text(rt, "accepted")?;
     } else {
-        text(b"refused ");
-        decimal(number as u64);
+        text(rt, "refused ")?;
+        decimal(rt, number as u64)?;
     }
-    text(b", steps ");
-    decimal(answer.steps as u64);
-    text(b", ");
+    text(rt, ", steps ")?;
+    decimal(rt, answer.steps as u64)?;
+    text(rt, ", ")?;
     let after = answer.machine;
-    state(after);
+    state(rt, after)?;
     let r = after.r;
     let given_r = given.r;
-    let general = same_general(r, given_r);
-    let control = same_control(after.control, given.control);
+    let general = same_general(rt, r, given_r)?;
+    let control = same_control(rt, after.control, given.control)?;
     if general && control && same_place(after, given) {
-        unchanged(call);
+        unchanged(rt, call)?;
     }
+    Ok(())
 }
 
-fn unchanged(call: Call) {
+fn unchanged(rt: &impl Print, call: Call) -> io::Result<()> {
     match call {
-        Call::Reset => {
-            text(b", state blank");
-        }
-        _ => {
-            text(b", state as given");
-        }
+        Call::Reset => text(rt, ", state blank"),
+        _ => text(rt, ", state as given"),
     }
 }
 
 // Of R0 to R15.
-fn same_general(r: [u32; 16], given: [u32; 16]) -> bool {
+fn same_general(rt: &impl Print, r: [u32; 16], given: [u32; 16]) -> io::Result<bool> {
     let mut same = true;
     let mut k: usize = 0;
     while k < GENERAL_REGISTERS {
-        same = same_register(k, r[k], given[k]) && same;
+        same = same_register(rt, k, r[k], given[k])? && same;
         k = k + 1;
     }
-    same
+    Ok(same)
 }
 
-fn same_register(k: usize, value: u32, given: u32) -> bool {
+fn same_register(rt: &impl Print, k: usize, value: u32, given: u32) -> io::Result<bool> {
     if value != given {
-        text(b", r");
-        decimal(k as u64);
-        text(b" ");
-        hex(value);
+        text(rt, ", r")?;
+        decimal(rt, k as u64)?;
+        text(rt, " ")?;
+        hex(rt, value)?;
     }
-    value == given
+    Ok(value == given)
 }
 
 // Of the control registers but PC and SR.
-fn same_control(control: Control, given: Control) -> bool {
-    let gbr = same_named(b", gbr ", control.gbr, given.gbr);
-    let vbr = same_named(b", vbr ", control.vbr, given.vbr);
-    let pr = same_named(b", pr ", control.pr, given.pr);
-    let mach = same_named(b", mach ", control.mach, given.mach);
-    let macl = same_named(b", macl ", control.macl, given.macl);
-    gbr && vbr && pr && mach && macl
+fn same_control(rt: &impl Print, control: Control, given: Control) -> io::Result<bool> {
+    let gbr = same_named(rt, ", gbr ", control.gbr, given.gbr)?;
+    let vbr = same_named(rt, ", vbr ", control.vbr, given.vbr)?;
+    let pr = same_named(rt, ", pr ", control.pr, given.pr)?;
+    let mach = same_named(rt, ", mach ", control.mach, given.mach)?;
+    let macl = same_named(rt, ", macl ", control.macl, given.macl)?;
+    Ok(gbr && vbr && pr && mach && macl)
 }
 
-fn same_named(name: &[u8], value: u32, given: u32) -> bool {
+fn same_named(rt: &impl Print, name: &str, value: u32, given: u32) -> io::Result<bool> {
     if value != given {
-        text(name);
-        hex(value);
+        text(rt, name)?;
+        hex(rt, value)?;
     }
-    value == given
+    Ok(value == given)
 }
 
 // Of what `state` prints.
@@ -172,27 +165,27 @@ fn mode_value(mode: Mode) -> u32 {
 }
 
 // The longs of the memory that are not as given; of the whole memory, where the call was lent a part of it.
-pub fn left(memory: &[u8; 1024], given: &[u8; 1024]) {
+pub fn left(rt: &impl Print, memory: &[u8; 1024], given: &[u8; 1024]) -> io::Result<()> {
     let mut same = true;
     let mut at: u32 = 0;
     while at < LENGTH {
-        same = same_long(at, long(memory, at), long(given, at)) && same;
+        same = same_long(rt, at, long(memory, at), long(given, at))? && same;
         at = at + 4;
     }
     if same {
-        text(b", memory as given");
+        text(rt, ", memory as given")?;
     }
-    text(b"\n");
+    text(rt, "\n")
 }
 
-fn same_long(at: u32, value: u32, given: u32) -> bool {
+fn same_long(rt: &impl Print, at: u32, value: u32, given: u32) -> io::Result<bool> {
     if value != given {
-        text(b", long at ");
-        hex(at);
-        text(b" ");
-        hex(value);
+        text(rt, ", long at ")?;
+        hex(rt, at)?;
+        text(rt, " ")?;
+        hex(rt, value)?;
     }
-    value == given
+    Ok(value == given)
 }
 
 fn long(memory: &[u8], at: u32) -> u32 {
@@ -202,14 +195,14 @@ fn long(memory: &[u8], at: u32) -> u32 {
     }
 }
 
-fn text(bytes: &[u8]) {
-    io::write_all(STDOUT_FILENO, bytes);
+fn text(rt: &impl Print, text: &str) -> io::Result<()> {
+    rt.print(text)
 }
 
-fn decimal(number: u64) {
-    io::print_decimal(STDOUT_FILENO, number);
+fn decimal(rt: &impl Print, number: u64) -> io::Result<()> {
+    rt.print(number)
 }
 
-fn hex(number: u32) {
-    io::print_hex(STDOUT_FILENO, number as u64, 8);
+fn hex(rt: &impl Print, number: u32) -> io::Result<()> {
+    print!(rt; "{number:08x}")
 }

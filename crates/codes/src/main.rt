@@ -1,7 +1,8 @@
 // Prints, for each row of the code table (document 000, Table 5.9), its pattern, how many of the 65,536 words decode to it, and
 // the first and the last of them; then how many words are defined and undefined.
 #![tactic(auto)]
-use libc::STDOUT_FILENO;
+
+use std::io;
 
 const ROWS: usize = 142;
 
@@ -158,24 +159,24 @@ struct Words {
     last: u64,
 }
 
-fn main() {
-    let defined = print_rows();
+fn main(rt: HostRuntime) -> io::Result<()> {
+    let defined = print_rows(&rt)?;
     let undefined = words_of(ROWS as u8);
-    print_total(b"defined ", defined);
-    print_total(b"undefined ", undefined.count);
+    print_total(&rt, "defined", defined)?;
+    print_total(&rt, "undefined", undefined.count)
 }
 
 // Prints a line for each row, and gives the number of words of all rows.
-fn print_rows() -> u64 {
+fn print_rows(rt: &impl Print) -> io::Result<u64> {
     let mut row: u8 = 0;
     let mut defined: u64 = 0;
     while (row as usize) < ROWS {
         let words = words_of(row);
-        defined = std::num::wrapping_add_u64(defined, words.count);
-        print_row(row, words);
+        defined = defined.wrapping_add(words.count);
+        print_row(rt, row, words)?;
         row += 1;
     }
-    defined
+    Ok(defined)
 }
 
 // The words whose meaning has this row number.
@@ -197,26 +198,18 @@ fn words_of(row: u8) -> Words {
     Words { count, first, last }
 }
 
-fn print_row(row: u8, words: Words) {
-    print_pattern(row);
-    io::write_all(STDOUT_FILENO, b" ");
-    io::print_decimal(STDOUT_FILENO, words.count);
-    io::write_all(STDOUT_FILENO, b" ");
-    io::print_hex(STDOUT_FILENO, words.first, 4);
-    io::write_all(STDOUT_FILENO, b" ");
-    io::print_hex(STDOUT_FILENO, words.last, 4);
-    io::write_all(STDOUT_FILENO, b"\n");
+fn print_row(rt: &impl Print, row: u8, words: Words) -> io::Result<()> {
+    print_pattern(rt, row)?;
+    println!(rt; " {} {:04x} {:04x}", words.count, words.first, words.last)
 }
 
-fn print_pattern(row: u8) {
+fn print_pattern(rt: &impl Print, row: u8) -> io::Result<()> {
     let start = row as usize % ROWS * 16;
     let end = start + 16;
     let patterns = PATTERNS;
-    io::write_all(STDOUT_FILENO, &patterns[start..end]);
+    rt.write_all(&patterns[start..end])
 }
 
-fn print_total(name: &[u8], count: u64) {
-    io::write_all(STDOUT_FILENO, name);
-    io::print_decimal(STDOUT_FILENO, count);
-    io::write_all(STDOUT_FILENO, b"\n");
+fn print_total(rt: &impl Print, name: &str, count: u64) -> io::Result<()> {
+    println!(rt; "{name} {count}")
 }

@@ -34,15 +34,15 @@ machine low high divisor =
 
 -- Words, as one computed test.
 standing : List ℕ → ℕ → List ℕ → Bool
-standing memory address [] = true
-standing memory address (w ∷ rest) = eqb (value_at 2 memory address) w && standing memory (address + 2) rest
+standing held address [] = true
+standing held address (w ∷ rest) = eqb (value_at 2 held address) w && standing held (address + 2) rest
 
-stand : (memory : List ℕ) (address : ℕ) (words : List ℕ) → T (standing memory address words) → Words memory address words
+stand : (held : List ℕ) (address : ℕ) (words : List ℕ) → T (standing held address words) → Words held address words
 unfolding standing
-stand memory address [] t = tt
-stand memory address (w ∷ rest) t = (
-  eqb→eq (value_at 2 memory address) w (left (eqb (value_at 2 memory address) w) _ t),
-  stand memory (address + 2) rest (right (eqb (value_at 2 memory address) w) _ t),
+stand held address [] t = tt
+stand held address (w ∷ rest) t = (
+  eqb→eq (value_at 2 held address) w (left (eqb (value_at 2 held address) w) _ t),
+  stand held (address + 2) rest (right (eqb (value_at 2 held address) w) _ t),
 )
 
 zeros : (n i : ℕ) → ◌≡◌ {A = ℕ} (get_or (replicate n 0) i 0) 0

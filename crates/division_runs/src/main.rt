@@ -1,10 +1,11 @@
 // Runs the 66-step division (document 01, "The division, in full") over 28 inputs, each cut into runs in four ways, and prints low, high, Q,
 // T and the steps reported in sum.
 #![tactic(auto)]
+
 use instructions::Control;
-use libc::STDOUT_FILENO;
 use machine::{Machine, Mode};
 use memory::Word;
+use std::io;
 
 const CASES: usize = 28;
 
@@ -70,7 +71,14 @@ fn budget(cut: u32, i: usize) -> u32 {
     UNEVEN[i % 66]
 }
 
-fn divide(high: u32, low: u32, divisor: u32, cut: u32, image: &mut [u8]) {
+fn divide(
+    rt: &impl Print,
+    high: u32,
+    low: u32,
+    divisor: u32,
+    cut: u32,
+    image: &mut [u8],
+) -> io::Result<()> {
     let mut r = [0u32; 16];
     r[0] = divisor;
     r[1] = low;
@@ -97,40 +105,53 @@ fn divide(high: u32, low: u32, divisor: u32, cut: u32, image: &mut [u8]) {
         steps = steps + answer.steps as u64;
         i = i + 1;
     }
-    print(high, low, divisor, cut, now, steps);
+    print(rt, high, low, divisor, cut, now, steps)
 }
 
-fn print(high: u32, low: u32, divisor: u32, cut: u32, after: Machine, steps: u64) {
-    hex(high, b":");
-    hex(low, b" / ");
-    hex(divisor, b" cut ");
-    io::print_decimal(STDOUT_FILENO, cut as u64);
-    io::write_all(STDOUT_FILENO, b": ");
-    hex(after.r[1], b" ");
-    hex(after.r[2], b" ");
-    io::print_decimal(STDOUT_FILENO, (after.control.sr / 256 % 2) as u64);
-    io::write_all(STDOUT_FILENO, b" ");
-    io::print_decimal(STDOUT_FILENO, (after.control.sr % 2) as u64);
-    io::write_all(STDOUT_FILENO, b" ");
-    io::print_decimal(STDOUT_FILENO, steps);
-    io::write_all(STDOUT_FILENO, b"\n");
+fn print(
+    rt: &impl Print,
+    high: u32,
+    low: u32,
+    divisor: u32,
+    cut: u32,
+    after: Machine,
+    steps: u64,
+) -> io::Result<()> {
+    hex(rt, high, ":")?;
+    hex(rt, low, " / ")?;
+    hex(rt, divisor, " cut ")?;
+    print!(rt; "{cut}: ")?;
+    hex(rt, after.r[1], " ")?;
+    hex(rt, after.r[2], " ")?;
+    println!(rt;
+        "{} {} {steps}",
+        after.control.sr / 256 % 2,
+        after.control.sr % 2
+    )
 }
 
-fn hex(number: u32, after: &[u8]) {
-    io::print_hex(STDOUT_FILENO, number as u64, 8);
-    io::write_all(STDOUT_FILENO, after);
+fn hex(rt: &impl Print, number: u32, after: &str) -> io::Result<()> {
+    print!(rt; "{number:08x}{after}")
 }
 
-fn main() {
+fn main(rt: HostRuntime) -> io::Result<()> {
     let mut image = [0u8; 1024];
     place(&mut image);
     let mut case: usize = 0;
     while case < CASES {
         let mut cut: u32 = 0;
         while cut < 4 {
-            divide(HIGHS[case], LOWS[case], DIVISORS[case], cut, &mut image);
+            divide(
+                &rt,
+                HIGHS[case],
+                LOWS[case],
+                DIVISORS[case],
+                cut,
+                &mut image,
+            )?;
             cut = cut + 1;
         }
         case = case + 1;
     }
+    Ok(())
 }

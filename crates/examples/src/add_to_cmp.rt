@@ -1,6 +1,7 @@
 // The examples of document 000, sections 6.3 to 6.16. PC is printed for the branches: the SLEEP at the destination leaves it 2 further.
 use crate::player;
 use crate::table::*;
+use std::io;
 
 const TEXTS: [u8; 1068] = *b"\
     6.3 CLRT; ADDC R3,R1: T = %, R1 = %\n\
@@ -244,6 +245,6 @@ const EXAMPLES: [u64; 202] = [
     END,
 ];
 
-pub fn run() {
-    player::play(&TEXTS, &EXAMPLES);
+pub fn run(rt: &impl Print) -> io::Result<()> {
+    player::play(rt, &TEXTS, &EXAMPLES)
 }

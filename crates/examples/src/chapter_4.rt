@@ -1,6 +1,7 @@
 // The examples of document 000, section 4.1, Tables 4.1 to 4.6. Where a table leaves a value open, it is chosen here.
 use crate::player;
 use crate::table::*;
+use std::io;
 
 const TEXTS: [u8; 511] = *b"\
     4.1.3 MOV.W @(disp,PC),R1; ADD R1,R0: R1 = %, R0 = %\n\
@@ -113,6 +114,6 @@ const EXAMPLES: [u64; 85] = [
     END,
 ];
 
-pub fn run() {
-    player::play(&TEXTS, &EXAMPLES);
+pub fn run(rt: &impl Print) -> io::Result<()> {
+    player::play(rt, &TEXTS, &EXAMPLES)
 }

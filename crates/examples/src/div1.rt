@@ -1,6 +1,7 @@
 // The four division sequences of document 000, section 6.19. The manual leaves the operands open; they are chosen here.
 use crate::player;
 use crate::table::*;
+use std::io;
 
 const TEXTS: [u8; 569] = *b"\
     6.19 Example 1, H'12345678 / H'5678: R1 (16 bits) = %, R2 = %, steps = %\n\
@@ -192,6 +193,6 @@ const EXAMPLES: [u64; 164] = [
     END,
 ];
 
-pub fn run() {
-    player::play(&TEXTS, &EXAMPLES);
+pub fn run(rt: &impl Print) -> io::Result<()> {
+    player::play(rt, &TEXTS, &EXAMPLES)
 }

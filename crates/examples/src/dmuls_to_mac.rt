@@ -1,6 +1,7 @@
 // The examples of document 000, sections 6.20 to 6.31.
 use crate::player;
 use crate::table::*;
+use std::io;
 
 const TEXTS: [u8; 932] = *b"\
     6.20 DMULS.L R0,R1; STS MACH,R0: MACH = %, MACL = %, R0 = %\n\
@@ -201,6 +202,6 @@ const EXAMPLES: [u64; 163] = [
     END,
 ];
 
-pub fn run() {
-    player::play(&TEXTS, &EXAMPLES);
+pub fn run(rt: &impl Print) -> io::Result<()> {
+    player::play(rt, &TEXTS, &EXAMPLES)
 }

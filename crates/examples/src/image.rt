@@ -49,7 +49,7 @@ pub fn prepare(image: &mut [u8]) {
 // Stores a word of a program, and gives the address of the next.
 pub fn append(image: &mut [u8], at: u32, word: u32) -> u32 {
     Word::store(image, at, word);
-    std::num::wrapping_add_u32(at, 2)
+    at.wrapping_add(2)
 }
 
 // Leaves the registers after execution in their longs.
@@ -81,7 +81,7 @@ fn keep_general(image: &mut [u8], r: [u32; 16]) {
     let mut n: usize = 0;
     while n < 15 {
         Long::store(image, at, r[n]);
-        at = std::num::wrapping_add_u32(at, 4);
+        at = at.wrapping_add(4);
         n = n + 1;
     }
     keep(image, table::R15, r[15]);

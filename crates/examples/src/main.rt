@@ -2,6 +2,7 @@
 // what the manual says of the state after execution is printed. The tables name the lines of the document's text. An address that
 // lies outside the memory keeps its last three digits: H'10000004 is H'3004 here, H'12345670 H'3670 and H'FFFF7F80 H'3F80.
 #![tactic(auto)]
+
 mod add_to_cmp;
 mod chapter_4;
 mod div1;
@@ -13,12 +14,14 @@ mod notes;
 mod player;
 mod table;
 
-fn main() {
-    chapter_4::run();
-    notes::run();
-    add_to_cmp::run();
-    div1::run();
-    dmuls_to_mac::run();
-    mov_to_mulu::run();
-    negc_to_xtrct::run();
+use std::io;
+
+fn main(rt: HostRuntime) -> io::Result<()> {
+    chapter_4::run(&rt)?;
+    notes::run(&rt)?;
+    add_to_cmp::run(&rt)?;
+    div1::run(&rt)?;
+    dmuls_to_mac::run(&rt)?;
+    mov_to_mulu::run(&rt)?;
+    negc_to_xtrct::run(&rt)
 }

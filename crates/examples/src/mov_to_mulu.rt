@@ -1,6 +1,7 @@
 // The examples of document 000, sections 6.32 to 6.40.
 use crate::player;
 use crate::table::*;
+use std::io;
 
 const TEXTS: [u8; 947] = *b"\
     6.32 MOV R0,R1: R1 = %\n\
@@ -241,6 +242,6 @@ const EXAMPLES: [u64; 190] = [
     END,
 ];
 
-pub fn run() {
-    player::play(&TEXTS, &EXAMPLES);
+pub fn run(rt: &impl Print) -> io::Result<()> {
+    player::play(rt, &TEXTS, &EXAMPLES)
 }

@@ -1,6 +1,7 @@
 // The examples of document 000, sections 6.42 to 6.70.
 use crate::player;
 use crate::table::*;
+use std::io;
 
 const TEXTS: [u8; 1001] = *b"\
     6.42 CLRT; NEGC R1,R1: R1 = %, T = %\n\
@@ -232,6 +233,6 @@ const EXAMPLES: [u64; 182] = [
     END,
 ];
 
-pub fn run() {
-    player::play(&TEXTS, &EXAMPLES);
+pub fn run(rt: &impl Print) -> io::Result<()> {
+    player::play(rt, &TEXTS, &EXAMPLES)
 }

@@ -2,6 +2,7 @@
 // H'3800, and the routine at H'3000 is a SLEEP.
 use crate::player;
 use crate::table::*;
+use std::io;
 
 const TEXTS: [u8; 239] = *b"\
     6.1 H'FFFF: PC = %, R15 = %, stacked PC = %, stacked SR = %\n\
@@ -61,6 +62,6 @@ const EXAMPLES: [u64; 44] = [
     END,
 ];
 
-pub fn run() {
-    player::play(&TEXTS, &EXAMPLES);
+pub fn run(rt: &impl Print) -> io::Result<()> {
+    player::play(rt, &TEXTS, &EXAMPLES)
 }

@@ -1,14 +1,14 @@
 // Goes through a table of examples: lays out each image, executes it and prints its text with the values in place.
 use crate::{image, table};
-use libc::STDOUT_FILENO;
 use memory::{Byte, Loaded, Long, Word};
+use std::io;
 
 const START: u32 = 0x1000;
 
 const SLEEP: u32 = 0x001b;
 
 // In `texts` there is a line for each example, with a % for each value.
-pub fn play(texts: &[u8], examples: &[u64]) {
+pub fn play(rt: &impl Print, texts: &[u8], examples: &[u64]) -> io::Result<()> {
     let mut image = [0u8; 16384];
     let mut at: u32 = begin(&mut image);
     let mut read: usize = 0;
@@ -21,16 +21,17 @@ pub fn play(texts: &[u8], examples: &[u64]) {
             image::append(&mut image, at, SLEEP);
             image::execute(&mut image, table::long(number));
         } else if number < table::END {
-            read = write_to(texts, read, b'%');
-            show(&image, number);
+            read = write_to(rt, texts, read, b'%')?;
+            show(rt, &image, number)?;
         } else {
-            read = write_to(texts, read, b'\n');
-            io::write_all(STDOUT_FILENO, b"\n");
+            read = write_to(rt, texts, read, b'\n')?;
+            println!(rt)?;
             image = [0u8; 16384];
             at = begin(&mut image);
         }
         i = i + 1;
     }
+    Ok(())
 }
 
 // Gives the address of the program's first word, as `lay_out` gives that of the next.
@@ -84,49 +85,41 @@ fn repeat_32(image: &mut [u8], at: u32, words: u32) -> u32 {
 }
 
 // Writes a text from a place up to the next `stop`, and gives the place after that.
-fn write_to(texts: &[u8], from: usize, stop: u8) -> usize {
+fn write_to(rt: &impl Print, texts: &[u8], from: usize, stop: u8) -> io::Result<usize> {
     let mut end: usize = from;
     while end < texts.len() {
         if texts[end] == stop {
-            io::write_all(STDOUT_FILENO, &texts[from..end]);
-            return end + 1;
+            rt.write_all(&texts[from..end])?;
+            return Ok(end + 1);
         }
         end = end + 1;
     }
-    end
+    Ok(end)
 }
 
-fn show(image: &[u8], number: u64) {
+fn show(rt: &impl Print, image: &[u8], number: u64) -> io::Result<()> {
     let at = table::place(number);
     if number < table::SHOW_WORD {
-        print_hex(Long::load(image, at), 8);
+        print_hex(rt, Long::load(image, at), 8)
     } else if number < table::SHOW_BYTE {
-        print_hex(Word::load(image, at), 4);
+        print_hex(rt, Word::load(image, at), 4)
     } else if number < table::SHOW_DECIMAL {
-        print_hex(Byte::load(image, at), 2);
+        print_hex(rt, Byte::load(image, at), 2)
     } else {
-        print_decimal(Long::load(image, at));
+        print_decimal(rt, Long::load(image, at))
     }
 }
 
-fn print_hex(loaded: Loaded, digits: usize) {
+fn print_hex(rt: &impl Print, loaded: Loaded, digits: usize) -> io::Result<()> {
     match loaded {
-        Loaded::Value(value) => {
-            io::print_hex(STDOUT_FILENO, value as u64, digits);
-        }
-        Loaded::Fault => {
-            io::write_all(STDOUT_FILENO, b"outside");
-        }
+        Loaded::Value(value) => print!(rt; "{value:0digits$x}"),
+        Loaded::Fault => print!(rt; "outside"),
     }
 }
 
-fn print_decimal(loaded: Loaded) {
+fn print_decimal(rt: &impl Print, loaded: Loaded) -> io::Result<()> {
     match loaded {
-        Loaded::Value(value) => {
-            io::print_decimal(STDOUT_FILENO, value as u64);
-        }
-        Loaded::Fault => {
-            io::write_all(STDOUT_FILENO, b"outside");
-        }
+        Loaded::Value(value) => print!(rt; "{value}"),
+        Loaded::Fault => print!(rt; "outside"),
     }
 }

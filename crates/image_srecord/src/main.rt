@@ -1,8 +1,9 @@
 // Reads an image on standard input, as the runner does, and writes it as S-records; or says why it is refused.
 #![tactic(auto)]
+
 ghost use Rattle.std.specs.Prelude.{◌≡◌, length};
 
-use libc::{STDIN_FILENO, STDOUT_FILENO};
+use std::io;
 
 // The longest image (document 01, "The runner").
 const LONGEST: usize = 65536;
@@ -14,32 +15,28 @@ fn room() -> [u8; 192527]
     [0; 192527]
 }
 
-fn main() {
+fn main(rt: HostRuntime) -> io::Result<()> {
     // One byte more than the longest image, to see that there is more.
     let mut image = [0u8; 65537];
     let mut text = room();
-    let length = io::read_full(STDIN_FILENO, &mut image);
-    print_text(&image[..length], &mut text);
+    let length = input::read_full(&mut rt.stdin(), &mut image);
+    print_text(&rt, &image[..length], &mut text)
 }
 
-fn print_text(image: &[u8], text: &mut [u8]) {
+fn print_text(rt: &impl Print, image: &[u8], text: &mut [u8]) -> io::Result<()> {
     if image.len() > LONGEST {
-        print_refusal(2);
-        return;
+        return print_refusal(rt, 2);
     }
     let answer = srecord::export(image, text);
     let refusal = answer.refusal;
     let number = refusal.number();
     if number != 0 {
-        print_refusal(number);
-        return;
+        return print_refusal(rt, number);
     }
     let n = answer.length;
-    io::write_all(STDOUT_FILENO, &text[..n]);
+    rt.write_all(&text[..n])
 }
 
-fn print_refusal(number: u32) {
-    io::write_all(STDOUT_FILENO, b"refused ");
-    io::print_decimal(STDOUT_FILENO, number as u64);
-    io::write_all(STDOUT_FILENO, b"\n");
+fn print_refusal(rt: &impl Print, number: u32) -> io::Result<()> {
+    println!(rt; "refused {number}")
 }
