@@ -88,7 +88,7 @@ abbrev pub parsed_of : Option Record → Parsed
 parsed_of none = parsed.Malformed
 parsed_of (some r) = parsed.Record (summary r)
 
--- What `recordOf` does in turn: with a line's bytes, behind its opening, before its end.
+-- What `record_of` does in turn: with a line's bytes, behind its opening, before its end.
 abbrev pub with_bytes : Opening → Option (List ℕ) → Option Record
 with_bytes o x = and_then x (λ bytes. cond (fits o bytes) (some (record { opening = o; bytes = bytes })) none)
 
