@@ -6,7 +6,7 @@ use Rattle.arithmetic.specs.Addresses.{following}
 use Rattle.instructions.specs.Promises.{bytes, extended, state}
 use Rattle.instructions.specs.State.{with_gbr}
 use Rattle.instructions.specs.Shapes.{gives}
-use Rattle.instructions.proofs.Families.{load as mov-load}
+use Rattle.instructions.proofs.Families.{load as mov_load}
 use Rattle.instructions.proofs.Answers.{met, load_value, load_failed}
 use Rattle.memory_instructions.proofs.loads.load.Goals as goal
 
@@ -15,7 +15,7 @@ returns-in-Value c =
     λ k.
     let a = c.args in
     let s = state a.r.now (with_gbr a.gbr k) a.memory.now in
-    rw (mov-load a.size a.address a.n (following s.control.pc) s, sym (c.effective.ensures k a.memory.now))
+    rw (mov_load a.size a.address a.n (following s.control.pc) s, sym (c.effective.ensures k a.memory.now))
     (load_value a.size (loaded (bytes a.size) a.memory.now c.effective.result) _ (λ w. gives a.n w s) s (met c.load.ensures c.in-Value.is))
 
 pub returns-in-Fault : goal.returns-in-Fault
@@ -23,6 +23,6 @@ returns-in-Fault c =
     λ k.
     let a = c.args in
     let s = state a.r.now (with_gbr a.gbr k) a.memory.now in
-    rw (mov-load a.size a.address a.n (following s.control.pc) s, sym (c.effective.ensures k a.memory.now))
+    rw (mov_load a.size a.address a.n (following s.control.pc) s, sym (c.effective.ensures k a.memory.now))
     (load_failed a.size (loaded (bytes a.size) a.memory.now c.effective.result) (λ w. gives a.n (extended a.size w) s) s
     (met c.load.ensures c.in-Fault.is))
