@@ -7,6 +7,7 @@ use arithmetic::addresses;
 use decoder::{Branch, BranchIf, BranchTo, Meaning};
 use instructions::{Control, Flow};
 
+#[tactic(auto, unfolding(instructions::specs::Execute::execute))]
 pub fn branch_if(operation: BranchIf, d: u8, pc: u32, sr: u32) -> Flow
     ensures { (c : Control) (r memory : List ℕ) → Performs (Meaning.BranchIf operation d) (with_pc pc (with_sr sr c)) r memory result (with_pc pc (with_sr sr c)) r memory }
 {
@@ -38,6 +39,7 @@ fn delay_if(test: bool, target: u32) -> Flow
     Flow::Next
 }
 
+#[tactic(auto, unfolding(instructions::specs::Execute::execute))]
 pub fn branch(operation: Branch, d: u16, pc: u32, pr: &mut u32) -> Flow
     ensures { (c : Control) (r memory : List ℕ) → Performs (Meaning.Branch operation d) (with_pc pc (with_pr pr.old c)) r memory result (with_pc pc (with_pr pr.new c)) r memory }
 {
@@ -51,6 +53,7 @@ pub fn branch(operation: Branch, d: u16, pc: u32, pr: &mut u32) -> Flow
     }
 }
 
+#[tactic(auto, unfolding(instructions::specs::Execute::execute))]
 pub fn branch_to(operation: BranchTo, m: u8, pc: u32, pr: &mut u32, r: &[u32; 16]) -> Flow
     ensures { (c : Control) (memory : List ℕ) → Performs (Meaning.BranchTo operation m) (with_pc pc (with_pr pr.old c)) r.now memory result (with_pc pc (with_pr pr.new c)) r.now memory }
 {

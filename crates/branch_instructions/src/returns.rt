@@ -7,6 +7,7 @@ use instructions::{Control, Flow};
 use memory::{Loaded, Long};
 use std::num::wrapping_add_u32;
 
+#[tactic(auto, unfolding(instructions::specs::Execute::execute))]
 pub fn return_by(operation: Return, sr: &mut u32, pr: u32, r: &mut [u32; 16], memory: &[u8]) -> Flow
     ensures { (c : Control) → Performs (Meaning.Return operation) (with_sr sr.old (with_pr pr c)) r.old memory.now result (with_sr sr.new (with_pr pr c)) r.new memory.now }
 {
@@ -16,6 +17,7 @@ pub fn return_by(operation: Return, sr: &mut u32, pr: u32, r: &mut [u32; 16], me
     }
 }
 
+#[tactic(auto, unfolding(instructions::specs::Execute::execute))]
 fn from_exception(sr: &mut u32, r: &mut [u32; 16], memory: &[u8]) -> Flow
     ensures { OnSr (Meaning.Return Return.Rte) sr.old r.old memory.now result sr.new r.new memory.now }
 {

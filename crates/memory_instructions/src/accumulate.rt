@@ -11,6 +11,7 @@ use memory::{Loaded, Long, Word};
 use multiply::Mac;
 use std::num::wrapping_add_u32;
 
+#[tactic(auto, unfolding(instructions::specs::Execute::execute))]
 pub fn multiply_add(
     operation: MultiplyAdd,
     m: u8,

@@ -8,6 +8,7 @@ use instructions::{Control, Flow, with_t};
 use memory::{Byte, Loaded, Stored};
 use std::num::wrapping_add_u32;
 
+#[tactic(auto, unfolding(instructions::specs::Execute::execute))]
 pub fn immediate_byte(
     operation: ImmediateByte,
     i: u8,
@@ -33,6 +34,7 @@ pub fn immediate_byte(
     }
 }
 
+#[tactic(auto, unfolding(instructions::specs::Execute::execute, memory::specs::Access::answered, memory::specs::Access::stored_at))]
 pub fn tas_b(n: u8, sr: &mut u32, r: &[u32; 16], memory: &mut [u8]) -> Flow
     ensures { OnSr (Meaning.TasB n) sr.old r.now memory.old result sr.new r.now memory.new }
 {
@@ -49,6 +51,7 @@ pub fn tas_b(n: u8, sr: &mut u32, r: &[u32; 16], memory: &mut [u8]) -> Flow
     }
 }
 
+#[tactic(auto, unfolding(memory::specs::Access::answered, memory::specs::Access::stored_at))]
 fn replace(byte: u32, at: u32, memory: &mut [u8]) -> Flow
     ensures { Replaces byte at memory.old result memory.new }
 {

@@ -21,6 +21,7 @@ pub fn load(size: Size, address: Address, n: u8, gbr: u32, r: &mut [u32; 16], me
     }
 }
 
+#[tactic(auto, unfolding(instructions::specs::Execute::execute))]
 pub fn load_increment(size: Size, m: u8, n: u8, r: &mut [u32; 16], memory: &[u8]) -> Flow
     ensures { (c : Control) → Performs (Meaning.LoadIncrement size m n) c r.old memory.now result c r.new memory.now }
 {
@@ -36,6 +37,7 @@ pub fn load_increment(size: Size, m: u8, n: u8, r: &mut [u32; 16], memory: &[u8]
     }
 }
 
+#[tactic(auto, unfolding(instructions::specs::Execute::execute))]
 pub fn relative(
     operation: Relative,
     d: u8,

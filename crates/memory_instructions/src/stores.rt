@@ -25,6 +25,7 @@ pub fn store(
     }
 }
 
+#[tactic(auto, unfolding(instructions::specs::Execute::execute, memory::specs::Access::answered, memory::specs::Access::stored_at))]
 pub fn store_decrement(size: Size, m: u8, n: u8, r: &mut [u32; 16], memory: &mut [u8]) -> Flow
     ensures { (c : Control) → Performs (Meaning.StoreDecrement size m n) c r.old memory.old result c r.new memory.new }
 {

@@ -8,6 +8,7 @@ use instructions::{Control, Flow};
 use memory::{Loaded, Long, Stored};
 use std::num::wrapping_add_u32;
 
+#[tactic(auto, unfolding(instructions::specs::Execute::execute))]
 pub fn load_control(register: ControlRegister, m: u8, control: Control, r: &[u32; 16]) -> Control
     ensures { (memory : List ℕ) → Performs (Meaning.LoadControl register m) control r.now memory Flow.Next result r.now memory }
 {
@@ -21,6 +22,7 @@ pub struct Popped {
     pub flow: Flow,
 }
 
+#[tactic(auto, unfolding(instructions::specs::Execute::execute))]
 pub fn load_control_long(
     register: ControlRegister,
     m: u8,
@@ -47,12 +49,14 @@ pub fn load_control_long(
     }
 }
 
+#[tactic(auto, unfolding(instructions::specs::Execute::execute))]
 pub fn store_control(register: ControlRegister, n: u8, control: Control, r: &mut [u32; 16])
     ensures { (memory : List ℕ) → Performs (Meaning.StoreControl register n) control r.old memory Flow.Next control r.new memory }
 {
     r[(n % 16) as usize] = control.register(register);
 }
 
+#[tactic(auto, unfolding(instructions::specs::Execute::execute, memory::specs::Access::answered, memory::specs::Access::stored_at))]
 pub fn store_control_long(
     register: ControlRegister,
     n: u8,

@@ -15,24 +15,6 @@ use Rattle.memory_instructions.proofs.accumulate.multiply_add.Goals as goal
 set_back : (xs : List ℕ) (i x : ℕ) → xs ≡ set (set xs i x) i (get_or xs i 0)
 set_back xs i x = sym (set-set xs i x (get_or xs i 0) ∙ set-get_or xs i 0)
 
-pub returns-in-Value-operand : goal.returns-in-Value-operand
-returns-in-Value-operand c =
-    λ k.
-    let a = c.args in
-    let s = state a.r.now (with_sr a.sr (with_mac a.mach.now a.macl.now k)) a.memory.now in
-    let kb = c.operand_bytes-k.ensures in
-    rw (
-      multiply_add a.operation a.m a.n (following s.control.pc) s,
-      met c.operand.ensures c.in-Value.is,
-      sym kb,
-      sym c.wrapping_add_u32.ensures.value,
-      kb,
-      met c.operand-in-Value.ensures c.in-Value-operand.is,
-      c.accumulated-sum.ensures,
-      c.wrapping_add_u32-in-Value-operand.ensures.value,
-      kb,
-    )
-
 pub returns-in-Fault-operand : goal.returns-in-Fault-operand
 returns-in-Fault-operand c =
     λ k.
@@ -48,10 +30,3 @@ returns-in-Fault-operand c =
       met c.operand-in-Value.ensures c.in-Fault-operand.is,
     )
     (ap (λ x. leads Fault (state x s.control a.memory.now)) (set_back a.r.now (a.n % 16) c.wrapping_add_u32.result))
-
-pub returns-in-Fault : goal.returns-in-Fault
-returns-in-Fault c =
-    λ k.
-    let a = c.args in
-    let s = state a.r.now (with_sr a.sr (with_mac a.mach.now a.macl.now k)) a.memory.now in
-    rw (multiply_add a.operation a.m a.n (following s.control.pc) s, met c.operand.ensures c.in-Fault.is)
