@@ -18,6 +18,10 @@ among (r ∷ rest) w = cond (row_matches w r) (row_means w r) (among rest w)
 unfoldable pub meaning : ℕ → Meaning
 meaning w = among table (nibbles w)
 
+-- The same, of the four nibbles.
+abbrev pub of_nibbles : (top second third last : ℕ) → Meaning
+of_nibbles t s h l = among table (record { top = t; second = s; third = h; last = l })
+
 -- The code table lacks the word: none of its rows matches it.
 abbrev pub none_matches : List Row → Nibbles → Bool
 none_matches [] w = true
