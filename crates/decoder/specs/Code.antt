@@ -18,7 +18,7 @@ among (r ∷ rest) w = cond (row_matches w r) (row_means w r) (among rest w)
 unfoldable pub meaning : ℕ → Meaning
 meaning w = among table (nibbles w)
 
--- The same, of the four nibbles.
+-- The same, told of the four nibbles: what each part of the code map promises.
 abbrev pub of_nibbles : (top second third last : ℕ) → Meaning
 of_nibbles t s h l = among table (record { top = t; second = s; third = h; last = l })
 

@@ -1,4 +1,6 @@
 // From a word to its meaning: nested matches on the word's four nibbles, as the code map of document 000 (Table A.51) goes.
+// Each function takes the nibbles that are not told yet, and promises what the table says of them: `n` (or `second`) is the second,
+// `m` (or `third`) the third, `low8` the two last as one number.
 #![tactic(auto, unfolding(crate::specs::Code::among, crate::specs::Table::table))]
 
 ghost use Rattle.std.specs.Prelude.{◌≡◌, ◌/◌, ◌%◌};
