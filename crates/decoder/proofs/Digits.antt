@@ -1,11 +1,8 @@
--- Two or three hexadecimal digits at the end of a word, as one number.
+-- The two last hexadecimal digits of a word, as one number, and each of them.
 -- Assumes nothing.
 use mathlib.Core.Path.{◌≡◌}
-use Prim.Native.Nat.{ℕ, ◌+◌, ◌*◌, ◌/◌, ◌%◌}
+use Prim.Native.Nat.{ℕ, ◌/◌, ◌%◌}
 use native.Mathlib.Omega.{arith}
 
-pub last_two : (w : ℕ) → w / 16 % 16 * 16 + w % 16 ≡ w % 256
-last_two w = omega arith
-
-pub last_three : (w : ℕ) → (w / 256 % 16 * 16 + w / 16 % 16) * 16 + w % 16 ≡ w % 4096
-last_three w = omega arith
+pub two_digits : (w : ℕ) → (w % 256 / 16 ≡ w / 16 % 16) × (w % 256 % 16 ≡ w % 16)
+two_digits w = (omega arith, omega arith)

@@ -1,7 +1,6 @@
 pub mod Arms
 pub mod Conjunction
 pub mod Digits
-pub mod Guards
 pub mod Patterns
 pub mod Rewriting
 pub mod Rows

@@ -49,15 +49,7 @@ paired P true x y = x
 paired P false x y = y
 
 module _ (w : Nibbles) where
-  -- Where a test that rules a row out passes at each row, the word is undefined, and no row matches.
-  pub none_among :
-      (f : Row → Bool) → ((r : Row) → T (f r) → row_matches w r ≡ false) → (rows : List Row) → T (every f rows) →
-      among rows w ≡ Undefined
-  unfolding among
-  none_among f out [] t = refl
-  none_among f out (r ∷ rest) t =
-      rw (out r (left (f r) (every f rest) t)) (none_among f out rest (right (f r) (every f rest) t))
-
+  -- Where a test that rules a row out passes at each row, no row matches.
   pub none_match :
       (f : Row → Bool) → ((r : Row) → T (f r) → row_matches w r ≡ false) → (rows : List Row) → T (every f rows) → how_many rows w ≡ 0
   none_match f out [] t = refl

@@ -1,6 +1,6 @@
 -- A code pattern of document 000, as "0011nnnnmmmm1100": what it fixes of a word, and what it reads from one.
 -- Section 5.1: mmmm is the source register, nnnn the destination register, iiii an immediate, dddd a displacement.
-use Rattle.std.specs.Prelude.{Bool, true, ◌&&◌, ◌||◌, cond, List, [], ◌∷◌, ℕ, ◌+◌, ◌*◌, ◌/◌, ◌%◌, eqb}
+use Rattle.std.specs.Prelude.{Bool, true, ◌&&◌, ◌||◌, if◌then◌else◌, List, [], ◌∷◌, ℕ, ◌+◌, ◌*◌, ◌/◌, ◌%◌, eqb}
 use Prim.Native.String.{String, slice}
 use lib.Text.{eqt}
 
@@ -20,12 +20,12 @@ pub data Group : Type 0 where
   part : String → Group
 
 abbrev bit : String → ℕ → ℕ
-bit s k = cond (eqt (slice s k (k + 1)) "1") 1 0
+bit s k = if eqt (slice s k (k + 1)) "1" then 1 else 0
 
 abbrev group : String → Group
 group s =
-    cond (eqt s "nnnn" || eqt s "mmmm" || eqt s "iiii" || eqt s "dddd") (part s)
-    (fixed (bit s 0 * 8 + bit s 1 * 4 + bit s 2 * 2 + bit s 3))
+    if eqt s "nnnn" || eqt s "mmmm" || eqt s "iiii" || eqt s "dddd" then part s
+    else fixed (bit s 0 * 8 + bit s 1 * 4 + bit s 2 * 2 + bit s 3)
 
 -- The sixteen characters, as four groups.
 pub record Code : Type 0 where
@@ -55,7 +55,7 @@ matches c w =
 -- A field is the number that the word's nibbles under its letters make.
 abbrev under : String → Group → ℕ → List ℕ → List ℕ
 under l (fixed k) x rest = rest
-under l (part s) x rest = cond (eqt s l) (x ∷ rest) rest
+under l (part s) x rest = if eqt s l then x ∷ rest else rest
 
 abbrev onward : ℕ → List ℕ → ℕ
 onward a [] = a

@@ -1,6 +1,10 @@
 // From a word to its meaning: nested matches on the word's four nibbles, as the code map of document 000 (Table A.51) goes.
+// Each function takes the nibbles that are not told yet, and promises what the table says of them: `n` (or `second`) is the second,
+// `m` (or `third`) the third, `low8` the two last as one number.
+#![tactic(auto, unfolding(crate::specs::Code::among, crate::specs::Table::table))]
+
 ghost use Rattle.std.specs.Prelude.{◌≡◌, ◌/◌, ◌%◌};
-ghost use Rattle.decoder.specs.Code.{meaning};
+ghost use Rattle.decoder.specs.Code.{meaning, of_nibbles};
 
 use crate::meaning::{
     Address, Branch, BranchIf, BranchTo, Compare, CompareZero, ControlRegister, Divide, Immediate,
@@ -8,59 +12,61 @@ use crate::meaning::{
     Return, Size, TwoRegisters,
 };
 
+// The last nibble of a word of group 4 that is no MAC.W.
+#[derive(Clone, Copy)]
+struct Last {
+    nibble: u8,
+    ghost no_mac_w: { nibble ≡ 0xf → ⊥ },
+}
+
 // MAC.W is told here: with three operands it has another layout than the rest of its group, and the compiler keeps them apart so.
-#[tactic(auto, using(crate::proofs::Guards::mac_w))]
+#[tactic(auto, using(crate::proofs::Digits::two_digits), unfolding(crate::specs::Code::among, crate::specs::Code::meaning, crate::specs::Table::table))]
 pub fn decode(word: u16) -> Meaning
     ensures { result ≡ meaning word }
 {
     let n = (word / 256 % 16) as u8;
     let m = (word / 16 % 16) as u8;
-    let low4 = (word % 16) as u8;
+    let last = (word % 16) as u8;
     let low8 = (word % 256) as u8;
-    let top = word / 4096;
-    match top {
-        0x0 => group_0(word),
-        0x1 => Meaning::Store(Size::Long, m, Address::Displacement(low4, n)),
-        0x2 => group_2(word),
-        0x3 => group_3(word),
+    match word / 4096 {
+        0x0 => group_0(n, m, last),
+        0x1 => Meaning::Store(Size::Long, m, Address::Displacement(last, n)),
+        0x2 => group_2(n, m, last),
+        0x3 => group_3(n, m, last),
         0x4 => {
-            if word % 16 == 0xf {
+            if last == 0xf {
                 return Meaning::MultiplyAdd(MultiplyAdd::MacW, m, n);
             }
-            group_4(word)
+            group_4(n, m, Last { nibble: last })
         }
-        0x5 => Meaning::Load(Size::Long, Address::Displacement(low4, m), n),
-        0x6 => group_6(word),
+        0x5 => Meaning::Load(Size::Long, Address::Displacement(last, m), n),
+        0x6 => group_6(n, m, last),
         0x7 => Meaning::Immediate(Immediate::AddImm, low8, n),
-        0x8 => group_8(word),
+        0x8 => group_8(n, low8),
         0x9 => Meaning::Relative(Relative::MovW, low8, n),
         0xa => Meaning::Branch(Branch::Bra, word % 4096),
         0xb => Meaning::Branch(Branch::Bsr, word % 4096),
-        0xc => group_c(word),
+        0xc => group_c(n, low8),
         0xd => Meaning::Relative(Relative::MovL, low8, n),
         0xe => Meaning::Immediate(Immediate::MovImm, low8, n),
         _ => Meaning::Undefined,
     }
 }
 
-fn group_0(word: u16) -> Meaning
-    requires { word / 4096 ≡ 0x0 }
-    ensures { result ≡ meaning word }
+fn group_0(n: u8, m: u8, last: u8) -> Meaning
+    ensures { result ≡ of_nibbles 0x0 n m last }
 {
-    let n = (word / 256 % 16) as u8;
-    let m = (word / 16 % 16) as u8;
-    let last = word % 16;
     match last {
-        0x2 => group_0_2(word),
-        0x3 => group_0_3(word),
+        0x2 => group_0_2(n, m),
+        0x3 => group_0_3(n, m),
         0x4 => Meaning::Store(Size::Byte, m, Address::Indexed(n)),
         0x5 => Meaning::Store(Size::Word, m, Address::Indexed(n)),
         0x6 => Meaning::Store(Size::Long, m, Address::Indexed(n)),
         0x7 => Meaning::Multiply(Multiply::MulL, m, n),
-        0x8 => group_0_8(word),
-        0x9 => group_0_9(word),
-        0xa => group_0_a(word),
-        0xb => group_0_b(word),
+        0x8 => group_0_8(n, m),
+        0x9 => group_0_9(n, m),
+        0xa => group_0_a(n, m),
+        0xb => group_0_b(n, m),
         0xc => Meaning::Load(Size::Byte, Address::Indexed(m), n),
         0xd => Meaning::Load(Size::Word, Address::Indexed(m), n),
         0xe => Meaning::Load(Size::Long, Address::Indexed(m), n),
@@ -69,12 +75,9 @@ fn group_0(word: u16) -> Meaning
     }
 }
 
-fn group_0_2(word: u16) -> Meaning
-    requires { (word / 4096 ≡ 0x0) × (word % 16 ≡ 0x2) }
-    ensures { result ≡ meaning word }
+fn group_0_2(n: u8, third: u8) -> Meaning
+    ensures { result ≡ of_nibbles 0x0 n third 0x2 }
 {
-    let n = (word / 256 % 16) as u8;
-    let third = word / 16 % 16;
     match third {
         0x0 => Meaning::StoreControl(ControlRegister::Sr, n),
         0x1 => Meaning::StoreControl(ControlRegister::Gbr, n),
@@ -83,12 +86,9 @@ fn group_0_2(word: u16) -> Meaning
     }
 }
 
-fn group_0_3(word: u16) -> Meaning
-    requires { (word / 4096 ≡ 0x0) × (word % 16 ≡ 0x3) }
-    ensures { result ≡ meaning word }
+fn group_0_3(m: u8, third: u8) -> Meaning
+    ensures { result ≡ of_nibbles 0x0 m third 0x3 }
 {
-    let m = (word / 256 % 16) as u8;
-    let third = word / 16 % 16;
     match third {
         0x0 => Meaning::BranchTo(BranchTo::Bsrf, m),
         0x2 => Meaning::BranchTo(BranchTo::Braf, m),
@@ -96,12 +96,9 @@ fn group_0_3(word: u16) -> Meaning
     }
 }
 
-fn group_0_8(word: u16) -> Meaning
-    requires { (word / 4096 ≡ 0x0) × (word % 16 ≡ 0x8) }
-    ensures { result ≡ meaning word }
+fn group_0_8(second: u8, third: u8) -> Meaning
+    ensures { result ≡ of_nibbles 0x0 second third 0x8 }
 {
-    let second = word / 256 % 16;
-    let third = word / 16 % 16;
     if second != 0 {
         return Meaning::Undefined;
     }
@@ -113,15 +110,11 @@ fn group_0_8(word: u16) -> Meaning
     }
 }
 
-#[tactic(auto, using(crate::proofs::Guards::group_0_9_register))]
-fn group_0_9(word: u16) -> Meaning
-    requires { (word / 4096 ≡ 0x0) × (word % 16 ≡ 0x9) }
-    ensures { result ≡ meaning word }
+fn group_0_9(n: u8, third: u8) -> Meaning
+    ensures { result ≡ of_nibbles 0x0 n third 0x9 }
 {
-    let n = word / 256 % 16;
-    let third = word / 16 % 16;
     if third == 0x2 {
-        return Meaning::OneRegister(OneRegister::Movt, n as u8);
+        return Meaning::OneRegister(OneRegister::Movt, n);
     }
     if n != 0 {
         return Meaning::Undefined;
@@ -133,12 +126,9 @@ fn group_0_9(word: u16) -> Meaning
     }
 }
 
-fn group_0_a(word: u16) -> Meaning
-    requires { (word / 4096 ≡ 0x0) × (word % 16 ≡ 0xa) }
-    ensures { result ≡ meaning word }
+fn group_0_a(n: u8, third: u8) -> Meaning
+    ensures { result ≡ of_nibbles 0x0 n third 0xa }
 {
-    let n = (word / 256 % 16) as u8;
-    let third = word / 16 % 16;
     match third {
         0x0 => Meaning::StoreControl(ControlRegister::Mach, n),
         0x1 => Meaning::StoreControl(ControlRegister::Macl, n),
@@ -147,12 +137,9 @@ fn group_0_a(word: u16) -> Meaning
     }
 }
 
-fn group_0_b(word: u16) -> Meaning
-    requires { (word / 4096 ≡ 0x0) × (word % 16 ≡ 0xb) }
-    ensures { result ≡ meaning word }
+fn group_0_b(second: u8, third: u8) -> Meaning
+    ensures { result ≡ of_nibbles 0x0 second third 0xb }
 {
-    let second = word / 256 % 16;
-    let third = word / 16 % 16;
     if second != 0 {
         return Meaning::Undefined;
     }
@@ -164,13 +151,9 @@ fn group_0_b(word: u16) -> Meaning
     }
 }
 
-fn group_2(word: u16) -> Meaning
-    requires { word / 4096 ≡ 0x2 }
-    ensures { result ≡ meaning word }
+fn group_2(n: u8, m: u8, last: u8) -> Meaning
+    ensures { result ≡ of_nibbles 0x2 n m last }
 {
-    let n = (word / 256 % 16) as u8;
-    let m = (word / 16 % 16) as u8;
-    let last = word % 16;
     match last {
         0x0 => Meaning::Store(Size::Byte, m, Address::Indirect(n)),
         0x1 => Meaning::Store(Size::Word, m, Address::Indirect(n)),
@@ -191,13 +174,9 @@ fn group_2(word: u16) -> Meaning
     }
 }
 
-fn group_3(word: u16) -> Meaning
-    requires { word / 4096 ≡ 0x3 }
-    ensures { result ≡ meaning word }
+fn group_3(n: u8, m: u8, last: u8) -> Meaning
+    ensures { result ≡ of_nibbles 0x3 n m last }
 {
-    let n = (word / 256 % 16) as u8;
-    let m = (word / 16 % 16) as u8;
-    let last = word % 16;
     match last {
         0x0 => Meaning::Compare(Compare::CmpEq, m, n),
         0x2 => Meaning::Compare(Compare::CmpHs, m, n),
@@ -217,26 +196,21 @@ fn group_3(word: u16) -> Meaning
     }
 }
 
-fn group_4(word: u16) -> Meaning
-    requires { (word / 4096 ≡ 0x4) × (word % 16 ≡ 0xf → ⊥) }
-    ensures { result ≡ meaning word }
+fn group_4(n: u8, third: u8, last: Last) -> Meaning
+    ensures { result ≡ of_nibbles 0x4 n third last.nibble }
 {
-    let third = word / 16 % 16;
     match third {
-        0x0 => group_4_0(word),
-        0x1 => group_4_1(word),
-        0x2 => group_4_2(word),
+        0x0 => group_4_0(n, last),
+        0x1 => group_4_1(n, last),
+        0x2 => group_4_2(n, last),
         _ => Meaning::Undefined,
     }
 }
 
-fn group_4_0(word: u16) -> Meaning
-    requires { (word / 4096 ≡ 0x4) × (word / 16 % 16 ≡ 0x0) × (word % 16 ≡ 0xf → ⊥) }
-    ensures { result ≡ meaning word }
+fn group_4_0(n: u8, last: Last) -> Meaning
+    ensures { result ≡ of_nibbles 0x4 n 0x0 last.nibble }
 {
-    let n = (word / 256 % 16) as u8;
-    let last = word % 16;
-    match last {
+    match last.nibble {
         0x0 => Meaning::OneRegister(OneRegister::Shll, n),
         0x1 => Meaning::OneRegister(OneRegister::Shlr, n),
         0x2 => Meaning::StoreControlLong(ControlRegister::Mach, n),
@@ -254,13 +228,10 @@ fn group_4_0(word: u16) -> Meaning
     }
 }
 
-fn group_4_1(word: u16) -> Meaning
-    requires { (word / 4096 ≡ 0x4) × (word / 16 % 16 ≡ 0x1) × (word % 16 ≡ 0xf → ⊥) }
-    ensures { result ≡ meaning word }
+fn group_4_1(n: u8, last: Last) -> Meaning
+    ensures { result ≡ of_nibbles 0x4 n 0x1 last.nibble }
 {
-    let n = (word / 256 % 16) as u8;
-    let last = word % 16;
-    match last {
+    match last.nibble {
         0x0 => Meaning::OneRegister(OneRegister::Dt, n),
         0x1 => Meaning::CompareZero(CompareZero::CmpPz, n),
         0x2 => Meaning::StoreControlLong(ControlRegister::Macl, n),
@@ -277,13 +248,10 @@ fn group_4_1(word: u16) -> Meaning
     }
 }
 
-fn group_4_2(word: u16) -> Meaning
-    requires { (word / 4096 ≡ 0x4) × (word / 16 % 16 ≡ 0x2) × (word % 16 ≡ 0xf → ⊥) }
-    ensures { result ≡ meaning word }
+fn group_4_2(n: u8, last: Last) -> Meaning
+    ensures { result ≡ of_nibbles 0x4 n 0x2 last.nibble }
 {
-    let n = (word / 256 % 16) as u8;
-    let last = word % 16;
-    match last {
+    match last.nibble {
         0x0 => Meaning::OneRegister(OneRegister::Shal, n),
         0x1 => Meaning::OneRegister(OneRegister::Shar, n),
         0x2 => Meaning::StoreControlLong(ControlRegister::Pr, n),
@@ -301,13 +269,9 @@ fn group_4_2(word: u16) -> Meaning
     }
 }
 
-fn group_6(word: u16) -> Meaning
-    requires { word / 4096 ≡ 0x6 }
-    ensures { result ≡ meaning word }
+fn group_6(n: u8, m: u8, last: u8) -> Meaning
+    ensures { result ≡ of_nibbles 0x6 n m last }
 {
-    let n = (word / 256 % 16) as u8;
-    let m = (word / 16 % 16) as u8;
-    let last = word % 16;
     match last {
         0x0 => Meaning::Load(Size::Byte, Address::Indirect(m), n),
         0x1 => Meaning::Load(Size::Word, Address::Indirect(m), n),
@@ -329,14 +293,11 @@ fn group_6(word: u16) -> Meaning
     }
 }
 
-fn group_8(word: u16) -> Meaning
-    requires { word / 4096 ≡ 0x8 }
-    ensures { result ≡ meaning word }
+fn group_8(second: u8, low8: u8) -> Meaning
+    ensures { result ≡ of_nibbles 0x8 second (low8 / 16) (low8 % 16) }
 {
-    let second = word / 256 % 16;
-    let register = (word / 16 % 16) as u8;
-    let low4 = (word % 16) as u8;
-    let low8 = (word % 256) as u8;
+    let register = low8 / 16;
+    let low4 = low8 % 16;
     match second {
         0x0 => Meaning::Store(Size::Byte, 0, Address::Displacement(low4, register)),
         0x1 => Meaning::Store(Size::Word, 0, Address::Displacement(low4, register)),
@@ -351,12 +312,9 @@ fn group_8(word: u16) -> Meaning
     }
 }
 
-fn group_c(word: u16) -> Meaning
-    requires { word / 4096 ≡ 0xc }
-    ensures { result ≡ meaning word }
+fn group_c(second: u8, low8: u8) -> Meaning
+    ensures { result ≡ of_nibbles 0xc second (low8 / 16) (low8 % 16) }
 {
-    let second = word / 256 % 16;
-    let low8 = (word % 256) as u8;
     match second {
         0x0 => Meaning::Store(Size::Byte, 0, Address::GbrDisplacement(low8)),
         0x1 => Meaning::Store(Size::Word, 0, Address::GbrDisplacement(low8)),

@@ -1,4 +1,4 @@
-// The row number of an instruction: the place of its row in Table 5.9, counted from 0, and 142 for an undefined word.
+// The row number of an instruction: the place of its row in Table 5.9, counted from 0. An undefined word has none.
 #![tactic(auto)]
 
 ghost use Rattle.std.specs.Prelude.{◌≡◌};
@@ -10,11 +10,11 @@ use decoder::{
     Return, Size, TwoRegisters,
 };
 
-pub fn row_number(meaning: Meaning) -> u8
+pub fn row_number(meaning: Meaning) -> Option<u8>
     ensures { result ≡ row_number meaning }
 {
-    match meaning {
-        Meaning::Undefined => 142,
+    let row = match meaning {
+        Meaning::Undefined => return None,
         Meaning::NoOperand(operation) => no_operand(operation),
         Meaning::OneRegister(operation, _) => one_register(operation),
         Meaning::CompareZero(operation, _) => compare_zero(operation),
@@ -41,11 +41,12 @@ pub fn row_number(meaning: Meaning) -> u8
         Meaning::BranchTo(operation, _) => branch_to(operation),
         Meaning::Return(operation) => return_from(operation),
         Meaning::Trapa(_) => 134,
-    }
+    };
+    Some(row)
 }
 
 fn no_operand(operation: NoOperand) -> u8
-    ensures { result ≡ row_number (Meaning.NoOperand operation) }
+    ensures { Some result ≡ row_number (Meaning.NoOperand operation) }
 {
     match operation {
         NoOperand::Clrmac => 15,
@@ -58,7 +59,7 @@ fn no_operand(operation: NoOperand) -> u8
 }
 
 fn one_register(operation: OneRegister) -> u8
-    ensures { result ≡ row_number (Meaning.OneRegister operation 0) }
+    ensures { Some result ≡ row_number (Meaning.OneRegister operation 0) }
 {
     match operation {
         OneRegister::Dt => 31,
@@ -81,7 +82,7 @@ fn one_register(operation: OneRegister) -> u8
 }
 
 fn compare_zero(operation: CompareZero) -> u8
-    ensures { result ≡ row_number (Meaning.CompareZero operation 0) }
+    ensures { Some result ≡ row_number (Meaning.CompareZero operation 0) }
 {
     match operation {
         CompareZero::CmpPl => 23,
@@ -90,7 +91,7 @@ fn compare_zero(operation: CompareZero) -> u8
 }
 
 fn two_registers(operation: TwoRegisters) -> u8
-    ensures { result ≡ row_number (Meaning.TwoRegisters operation 0 0) }
+    ensures { Some result ≡ row_number (Meaning.TwoRegisters operation 0 0) }
 {
     match operation {
         TwoRegisters::Add => 1,
@@ -117,7 +118,7 @@ fn two_registers(operation: TwoRegisters) -> u8
 }
 
 fn compare(operation: Compare) -> u8
-    ensures { result ≡ row_number (Meaning.Compare operation 0 0) }
+    ensures { Some result ≡ row_number (Meaning.Compare operation 0 0) }
 {
     match operation {
         Compare::CmpEq => 18,
@@ -131,7 +132,7 @@ fn compare(operation: Compare) -> u8
 }
 
 fn divide(operation: Divide) -> u8
-    ensures { result ≡ row_number (Meaning.Divide operation 0 0) }
+    ensures { Some result ≡ row_number (Meaning.Divide operation 0 0) }
 {
     match operation {
         Divide::Div0s => 26,
@@ -140,7 +141,7 @@ fn divide(operation: Divide) -> u8
 }
 
 fn multiply(operation: Multiply) -> u8
-    ensures { result ≡ row_number (Meaning.Multiply operation 0 0) }
+    ensures { Some result ≡ row_number (Meaning.Multiply operation 0 0) }
 {
     match operation {
         Multiply::DmulsL => 29,
@@ -152,7 +153,7 @@ fn multiply(operation: Multiply) -> u8
 }
 
 fn multiply_add(operation: MultiplyAdd) -> u8
-    ensures { result ≡ row_number (Meaning.MultiplyAdd operation 0 0) }
+    ensures { Some result ≡ row_number (Meaning.MultiplyAdd operation 0 0) }
 {
     match operation {
         MultiplyAdd::MacL => 50,
@@ -161,7 +162,7 @@ fn multiply_add(operation: MultiplyAdd) -> u8
 }
 
 fn immediate(operation: Immediate) -> u8
-    ensures { result ≡ row_number (Meaning.Immediate operation 0 0) }
+    ensures { Some result ≡ row_number (Meaning.Immediate operation 0 0) }
 {
     match operation {
         Immediate::AddImm => 0,
@@ -170,7 +171,7 @@ fn immediate(operation: Immediate) -> u8
 }
 
 fn immediate_r0(operation: ImmediateR0) -> u8
-    ensures { result ≡ row_number (Meaning.ImmediateR0 operation 0) }
+    ensures { Some result ≡ row_number (Meaning.ImmediateR0 operation 0) }
 {
     match operation {
         ImmediateR0::AndImm => 4,
@@ -182,7 +183,7 @@ fn immediate_r0(operation: ImmediateR0) -> u8
 }
 
 fn immediate_byte(operation: ImmediateByte) -> u8
-    ensures { result ≡ row_number (Meaning.ImmediateByte operation 0) }
+    ensures { Some result ≡ row_number (Meaning.ImmediateByte operation 0) }
 {
     match operation {
         ImmediateByte::AndB => 6,
@@ -193,7 +194,7 @@ fn immediate_byte(operation: ImmediateByte) -> u8
 }
 
 fn load_increment(operation: Size) -> u8
-    ensures { result ≡ row_number (Meaning.LoadIncrement operation 0 0) }
+    ensures { Some result ≡ row_number (Meaning.LoadIncrement operation 0 0) }
 {
     match operation {
         Size::Byte => 57,
@@ -203,7 +204,7 @@ fn load_increment(operation: Size) -> u8
 }
 
 fn store_decrement(operation: Size) -> u8
-    ensures { result ≡ row_number (Meaning.StoreDecrement operation 0 0) }
+    ensures { Some result ≡ row_number (Meaning.StoreDecrement operation 0 0) }
 {
     match operation {
         Size::Byte => 62,
@@ -213,7 +214,7 @@ fn store_decrement(operation: Size) -> u8
 }
 
 fn relative(operation: Relative) -> u8
-    ensures { result ≡ row_number (Meaning.Relative operation 0 0) }
+    ensures { Some result ≡ row_number (Meaning.Relative operation 0 0) }
 {
     match operation {
         Relative::MovW => 76,
@@ -223,7 +224,7 @@ fn relative(operation: Relative) -> u8
 }
 
 fn load_control(operation: ControlRegister) -> u8
-    ensures { result ≡ row_number (Meaning.LoadControl operation 0) }
+    ensures { Some result ≡ row_number (Meaning.LoadControl operation 0) }
 {
     match operation {
         ControlRegister::Gbr => 38,
@@ -236,7 +237,7 @@ fn load_control(operation: ControlRegister) -> u8
 }
 
 fn load_control_long(operation: ControlRegister) -> u8
-    ensures { result ≡ row_number (Meaning.LoadControlLong operation 0) }
+    ensures { Some result ≡ row_number (Meaning.LoadControlLong operation 0) }
 {
     match operation {
         ControlRegister::Gbr => 41,
@@ -249,7 +250,7 @@ fn load_control_long(operation: ControlRegister) -> u8
 }
 
 fn store_control(operation: ControlRegister) -> u8
-    ensures { result ≡ row_number (Meaning.StoreControl operation 0) }
+    ensures { Some result ≡ row_number (Meaning.StoreControl operation 0) }
 {
     match operation {
         ControlRegister::Gbr => 116,
@@ -262,7 +263,7 @@ fn store_control(operation: ControlRegister) -> u8
 }
 
 fn store_control_long(operation: ControlRegister) -> u8
-    ensures { result ≡ row_number (Meaning.StoreControlLong operation 0) }
+    ensures { Some result ≡ row_number (Meaning.StoreControlLong operation 0) }
 {
     match operation {
         ControlRegister::Gbr => 119,
@@ -275,7 +276,7 @@ fn store_control_long(operation: ControlRegister) -> u8
 }
 
 fn branch_if(operation: BranchIf) -> u8
-    ensures { result ≡ row_number (Meaning.BranchIf operation 0) }
+    ensures { Some result ≡ row_number (Meaning.BranchIf operation 0) }
 {
     match operation {
         BranchIf::Bf => 7,
@@ -286,7 +287,7 @@ fn branch_if(operation: BranchIf) -> u8
 }
 
 fn branch(operation: Branch) -> u8
-    ensures { result ≡ row_number (Meaning.Branch operation 0) }
+    ensures { Some result ≡ row_number (Meaning.Branch operation 0) }
 {
     match operation {
         Branch::Bra => 9,
@@ -295,7 +296,7 @@ fn branch(operation: Branch) -> u8
 }
 
 fn branch_to(operation: BranchTo) -> u8
-    ensures { result ≡ row_number (Meaning.BranchTo operation 0) }
+    ensures { Some result ≡ row_number (Meaning.BranchTo operation 0) }
 {
     match operation {
         BranchTo::Braf => 10,
@@ -306,7 +307,7 @@ fn branch_to(operation: BranchTo) -> u8
 }
 
 fn return_from(operation: Return) -> u8
-    ensures { result ≡ row_number (Meaning.Return operation) }
+    ensures { Some result ≡ row_number (Meaning.Return operation) }
 {
     match operation {
         Return::Rte => 102,
@@ -315,7 +316,7 @@ fn return_from(operation: Return) -> u8
 }
 
 fn load(size: Size, address: Address) -> u8
-    ensures { result ≡ row_number (Meaning.Load size address 0) }
+    ensures { Some result ≡ row_number (Meaning.Load size address 0) }
 {
     match address {
         Address::Indirect(_) => match size {
@@ -342,7 +343,7 @@ fn load(size: Size, address: Address) -> u8
 }
 
 fn store(size: Size, address: Address) -> u8
-    ensures { result ≡ row_number (Meaning.Store size 0 address) }
+    ensures { Some result ≡ row_number (Meaning.Store size 0 address) }
 {
     match address {
         Address::Indirect(_) => match size {
