@@ -5,9 +5,10 @@ use mathlib.Core.List.{List, [], ◌∷◌}
 use Prim.Native.Nat.{ℕ, ◌+◌}
 use lib.ListN.{length, replicate}
 use Rattle.machine.specs.Calls.{Called, called}
+use Rattle.machine.proofs.Calling.{memory_told}
 use Rattle.machine.specs.Situation.{machine_of, over}
 use Rattle.machine.specs.declared.Machine.{Machine}
-use Rattle.division.specs.Division.{Answers, Conclusion, Meets, PromisesDivide, Reply, calls, gathered}
+use Rattle.division.specs.Division.{Answers, Conclusion, Meets, PromisesDivide, Reply, calls, gathered, handed_on}
 use Rattle.division.proofs.Division.{calls_divide}
 
 abbrev joined : Called → Answers → Answers
@@ -26,12 +27,12 @@ gathered_calls [] m memory [] meets = refl
 gathered_calls [] m memory (reply ∷ replies) meets = absurd meets
 gathered_calls (budget ∷ rest) m memory [] meets = absurd meets
 gathered_calls (budget ∷ rest) m memory (reply ∷ replies) meets =
-    rw (gathered_calls rest reply.answer.machine reply.memory replies meets.1)
+    rw (gathered_calls rest (handed_on reply) reply.memory replies meets.1)
     (subst
     (λ (c : Called).
-    joined (called reply.answer reply.memory) (calls rest reply.answer.machine reply.memory) ≡
+    joined (called reply.answer reply.memory) (calls rest (handed_on reply) reply.memory) ≡
     joined c (calls rest (machine_of c.ran.after) c.ran.after.state.memory))
-    meets.0 refl)
+    meets.0 (rw (memory_told reply.answer reply.memory) refl))
 
 pub promises_divide : PromisesDivide
 promises_divide low high divisor m memory p budgets e replies meets =

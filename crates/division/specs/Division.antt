@@ -1,16 +1,17 @@
 -- The division of the 64 bits high:low by a divisor, in 66 instructions: what is assumed before it and what holds after it.
 -- Document 01, "The division, in full".
-use Rattle.std.specs.Prelude.{◌≡◌, List, [], ◌∷◌, ℕ, zero, suc, ◌+◌, ◌*◌, ◌-◌, ◌/◌, ◌%◌, ◌^◌, ◌≤◌, ◌<◌, length, get_or, replicate}
+use Rattle.std.specs.Prelude.{◌≡◌, List, [], ◌∷◌, ℕ, zero, suc, ◌+◌, ◌*◌, ◌-◌, ◌/◌, ◌%◌, ◌^◌, ◌≤◌, ◌<◌, length, get_or, replicate, Result}
 use Rattle.numbers.specs.Numbers.{low32}
 use Rattle.arithmetic.specs.Logic.{complement}
 use Rattle.memory.specs.Access.{value_at}
 use Rattle.instructions.specs.State.{State, reg, t_bit, s_bit, q_bit, m_bit, masked}
 use Rattle.machine.specs.declared.Answer.{Answer}
+use Rattle.machine.specs.declared.Refused.{Refused}
 use Rattle.machine.specs.declared.Machine.{Machine}
 use Rattle.machine.specs.declared.Mode.TheVariants.{Running}
 use Rattle.machine.specs.Situation.{Situation, machine_of, over}
 use Rattle.machine.specs.Run.{Ran, still, run}
-use Rattle.machine.specs.Calls.{Runs, refusal_number, refused, run_call}
+use Rattle.machine.specs.Calls.{Called, Runs, called, refused, run_call}
 
 -- DIV0U, ROTCL Rn and DIV1 Rm,Rn: document 000, sections 6.18, 6.46 and 6.19.
 abbrev pub div0u_code : ℕ
@@ -171,10 +172,16 @@ CallsDivide =
     (end.refusals ≡ replicate (length budgets) 0) ×
     Conclusion low high divisor (over m memory) (over end.machine end.memory) end.steps
 
--- An answer, with the memory that it leaves.
+-- What a call answers, with the memory that it leaves; what it comes to; and the machine that it hands on.
 pub record Reply : Type 0 where
-  pub answer : Answer
+  pub answer : Result Answer Refused
   pub memory : List ℕ
+
+abbrev pub come_to : Reply → Called
+come_to reply = called reply.answer reply.memory
+
+abbrev pub handed_on : Reply → Machine
+handed_on reply = machine_of (come_to reply).ran.after
 
 -- Replies that meet the promise of the public operation `run`, one for each budget, each call made with what the one before it left.
 abbrev pub Meets : List ℕ → Machine → List ℕ → List Reply → Type 0
@@ -182,17 +189,18 @@ Meets [] m memory [] = Unit {0}
 Meets [] m memory (reply ∷ replies) = ⊥
 Meets (budget ∷ rest) m memory [] = ⊥
 Meets (budget ∷ rest) m memory (reply ∷ replies) =
-    Runs budget m memory reply.answer reply.memory × Meets rest reply.answer.machine reply.memory replies
+    Runs budget m memory reply.answer reply.memory × Meets rest (handed_on reply) reply.memory replies
 
 abbrev pub gathered : Machine → List ℕ → List Reply → Answers
 gathered m memory [] = record { refusals = []; machine = m; memory = memory; steps = 0 }
 gathered m memory (reply ∷ replies) =
-    let later = gathered reply.answer.machine reply.memory replies in
+    let one = come_to reply in
+    let later = gathered (handed_on reply) reply.memory replies in
     record {
-      refusals = refusal_number reply.answer.refusal ∷ later.refusals;
+      refusals = one.refusal ∷ later.refusals;
       machine = later.machine;
       memory = later.memory;
-      steps = reply.answer.steps + later.steps;
+      steps = one.ran.steps + later.steps;
     }
 
 -- The division theorem, of the public operation: whatever replies its promise allows.

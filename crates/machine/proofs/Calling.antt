@@ -125,11 +125,7 @@ answer_told (Ok a) memory = refl
 answer_told (Err why) memory =
     rw (ne_eqb _ _ (refuses why.refusal)) (ap (λ r. Err (record { refusal = r; machine = why.machine })) (refusal_told why.refusal))
 
-memory_of : Called → List ℕ
-memory_of c = c.ran.after.state.memory
-
-memory_told : (a : Result Answer Refused) (memory : List ℕ) → memory_of (called a memory) ≡ memory
-unfolding memory_of
+pub memory_told : (a : Result Answer Refused) (memory : List ℕ) → (called a memory).ran.after.state.memory ≡ memory
 memory_told (Ok a) memory = refl
 memory_told (Err why) memory = refl
 
@@ -138,7 +134,7 @@ one_result :
     called b other ≡ promised → (a ≡ b) × (after ≡ other)
 one_result a b after other p q = (
   sym (answer_told a after) ∙ ap answer_of (p ∙ sym q) ∙ answer_told b other,
-  sym (memory_told a after) ∙ ap memory_of (p ∙ sym q) ∙ memory_told b other,
+  sym (memory_told a after) ∙ ap (λ (c : Called). c.ran.after.state.memory) (p ∙ sym q) ∙ memory_told b other,
 )
 
 pub reset_determined : (memory : List ℕ) (a b : Result Answer Refused) → Resets memory a → Resets memory b → a ≡ b
