@@ -1,10 +1,9 @@
 // One instruction: its effect on registers and memory, and where it leads. A function for each shape does the work.
 #![tactic(auto)]
 
-ghost use Rattle.std.specs.Prelude.{◌≡◌, true, ℕ};
+ghost use Rattle.std.specs.Prelude.{◌≡◌, true};
 ghost use Rattle.decoder.specs.Slot.{rewrites_pc};
 ghost use Rattle.instructions.specs.Promises.{Attempts};
-ghost use Rattle.instructions.specs.State.{control};
 
 use branch_instructions::{branches, returns};
 use decoder::Meaning;
@@ -17,70 +16,70 @@ use register_instructions::registers;
 pub fn attempt(
     meaning: Meaning,
     slot: bool,
-    pc: u32,
-    sr: &mut u32,
-    gbr: &mut u32,
-    vbr: &mut u32,
-    pr: &mut u32,
-    mach: &mut u32,
-    macl: &mut u32,
+    control: &mut Control,
     r: &mut [u32; 16],
     memory: &mut [u8],
 ) -> Flow
-    ensures { Attempts slot meaning (control pc sr.old gbr.old vbr.old pr.old mach.old macl.old) r.old memory.old result (control pc sr.new gbr.new vbr.new pr.new mach.new macl.new) r.new memory.new }
+    ensures { Attempts slot meaning control.old r.old memory.old result control.new r.new memory.new }
 {
-    let control = Control {
-        pc,
-        sr: *sr,
-        gbr: *gbr,
-        vbr: *vbr,
-        pr: *pr,
-        mach: *mach,
-        macl: *macl,
-    };
+    let pc = control.pc;
     match meaning {
         Meaning::Undefined => Flow::Illegal,
-        Meaning::NoOperand(op) => registers::no_operand(op, sr, mach, macl),
+        Meaning::NoOperand(op) => registers::no_operand(
+            op,
+            &mut control.sr,
+            &mut control.mach,
+            &mut control.macl,
+        ),
         Meaning::OneRegister(op, n) => {
-            registers::one_register(op, n, sr, r);
+            registers::one_register(op, n, &mut control.sr, r);
             Flow::Next
         }
         Meaning::CompareZero(op, n) => {
-            registers::compare_zero(op, n, sr, r);
+            registers::compare_zero(op, n, &mut control.sr, r);
             Flow::Next
         }
         Meaning::TwoRegisters(op, m, n) => {
-            registers::two_registers(op, m, n, sr, r);
+            registers::two_registers(op, m, n, &mut control.sr, r);
             Flow::Next
         }
         Meaning::Compare(op, m, n) => {
-            registers::compare(op, m, n, sr, r);
+            registers::compare(op, m, n, &mut control.sr, r);
             Flow::Next
         }
         Meaning::Divide(op, m, n) => {
-            registers::divide(op, m, n, sr, r);
+            registers::divide(op, m, n, &mut control.sr, r);
             Flow::Next
         }
         Meaning::Multiply(op, m, n) => {
-            registers::multiply(op, m, n, mach, macl, r);
+            registers::multiply(op, m, n, &mut control.mach, &mut control.macl, r);
             Flow::Next
         }
         Meaning::MultiplyAdd(op, m, n) => {
-            accumulate::multiply_add(op, m, n, control.sr, mach, macl, r, memory)
+            accumulate::multiply_add(
+                op,
+                m,
+                n,
+                control.sr,
+                &mut control.mach,
+                &mut control.macl,
+                r,
+                memory,
+            )
         }
         Meaning::Immediate(op, i, n) => {
             registers::immediate(op, i, n, r);
             Flow::Next
         }
         Meaning::ImmediateR0(op, i) => {
-            registers::immediate_r0(op, i, sr, r);
+            registers::immediate_r0(op, i, &mut control.sr, r);
             Flow::Next
         }
         Meaning::ImmediateByte(op, i) => byte_logic::immediate_byte(
             op,
             i,
             control.gbr,
-            sr,
+            &mut control.sr,
             r,
             memory,
         ),
@@ -90,25 +89,11 @@ pub fn attempt(
         Meaning::StoreDecrement(size, m, n) => stores::store_decrement(size, m, n, r, memory),
         Meaning::Relative(op, d, n) => loads::relative(op, d, n, pc, r, memory),
         Meaning::LoadControl(register, m) => {
-            let after = system::load_control(register, m, control, r);
-            *sr = after.sr;
-            *gbr = after.gbr;
-            *vbr = after.vbr;
-            *pr = after.pr;
-            *mach = after.mach;
-            *macl = after.macl;
+            system::load_control(register, m, control, r);
             Flow::Next
         }
         Meaning::LoadControlLong(register, m) => {
-            let popped = system::load_control_long(register, m, control, r, memory);
-            let after = popped.control;
-            *sr = after.sr;
-            *gbr = after.gbr;
-            *vbr = after.vbr;
-            *pr = after.pr;
-            *mach = after.mach;
-            *macl = after.macl;
-            popped.flow
+            system::load_control_long(register, m, control, r, memory)
         }
         Meaning::StoreControl(register, n) => {
             system::store_control(register, n, control, r);
@@ -117,8 +102,8 @@ pub fn attempt(
         Meaning::StoreControlLong(register, n) => {
             system::store_control_long(register, n, control, r, memory)
         }
-        Meaning::TasB(n) => byte_logic::tas_b(n, sr, r, memory),
-        _ => rewrite_pc(meaning, slot, pc, sr, pr, r, memory),
+        Meaning::TasB(n) => byte_logic::tas_b(n, &mut control.sr, r, memory),
+        _ => rewrite_pc(meaning, slot, control, r, memory),
     }
 }
 
@@ -126,23 +111,22 @@ pub fn attempt(
 fn rewrite_pc(
     meaning: Meaning,
     slot: bool,
-    pc: u32,
-    sr: &mut u32,
-    pr: &mut u32,
+    control: &mut Control,
     r: &mut [u32; 16],
-    memory: &[u8],
+    memory: &mut [u8],
 ) -> Flow
     requires { rewrites_pc meaning ≡ true }
-    ensures { (gbr vbr mach macl : ℕ) → Attempts slot meaning (control pc sr.old gbr vbr pr.old mach macl) r.old memory.now result (control pc sr.new gbr vbr pr.new mach macl) r.new memory.now }
+    ensures { Attempts slot meaning control.old r.old memory.old result control.new r.new memory.new }
 {
     if slot {
         return Flow::Illegal;
     }
+    let pc = control.pc;
     match meaning {
-        Meaning::BranchIf(op, d) => branches::branch_if(op, d, pc, *sr),
-        Meaning::Branch(op, d) => branches::branch(op, d, pc, pr),
-        Meaning::BranchTo(op, m) => branches::branch_to(op, m, pc, pr, r),
-        Meaning::Return(op) => returns::return_by(op, sr, *pr, r, memory),
+        Meaning::BranchIf(op, d) => branches::branch_if(op, d, pc, control.sr),
+        Meaning::Branch(op, d) => branches::branch(op, d, pc, &mut control.pr),
+        Meaning::BranchTo(op, m) => branches::branch_to(op, m, pc, &mut control.pr, r),
+        Meaning::Return(op) => returns::return_by(op, &mut control.sr, control.pr, r, memory),
         Meaning::Trapa(i) => Flow::Trap(i),
         _ => Flow::Illegal,
     }

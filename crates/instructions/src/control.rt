@@ -22,8 +22,8 @@ impl Control {
     pub const SR_MASK: u32 = 0x3f3;
 
     // What LDC and LDS write. SR takes its mask (document 01, "Instructions with corners").
-    pub fn with_register(mut self, register: ControlRegister, value: u32) -> Self
-        ensures { result ≡ Promises.with_control_register register value self }
+    pub fn set_register(&mut self, register: ControlRegister, value: u32)
+        ensures { self.new ≡ Promises.with_control_register register value self.old }
     {
         match register {
             ControlRegister::Gbr => self.gbr = value,
@@ -33,12 +33,11 @@ impl Control {
             ControlRegister::Macl => self.macl = value,
             ControlRegister::Pr => self.pr = value,
         }
-        self
     }
 
     // What STC and STS read.
-    pub fn register(self, register: ControlRegister) -> u32
-        ensures { result ≡ Promises.control_register register self }
+    pub fn register(&self, register: ControlRegister) -> u32
+        ensures { result ≡ Promises.control_register register self.now }
     {
         match register {
             ControlRegister::Gbr => self.gbr,

@@ -2,7 +2,7 @@
 -- run.
 use Rattle.std.specs.Prelude.{◌≡◌, ℕ, List, Ok}
 use Rattle.instructions.specs.Promises.{state}
-use Rattle.instructions.specs.State.{control}
+use Rattle.instructions.specs.declared.control.Control.{Control}
 use Rattle.instructions.specs.declared.control.Flow.{Flow}
 use Rattle.instructions.specs.declared.control.Flow.TheVariants.{Next, Jump, Delay, Sleep, Trap, Fault, Illegal}
 use Rattle.machine.specs.declared.Answer.{Answer}
@@ -15,12 +15,9 @@ use Rattle.machine.specs.Step.{settle, step}
 use Rattle.machine.specs.Run.{run}
 use Rattle.machine.specs.Calls.{called}
 
-abbrev pub Enters :
-    (number saved pc sr vbr : ℕ) (r memory : List ℕ) (mode : Mode) (pc' : ℕ) (r' memory' : List ℕ) → Type 0
-Enters number saved pc sr vbr r memory mode pc' r' memory' =
-    (gbr pr mach macl : ℕ) →
-    raise number saved (state r (control pc sr gbr vbr pr mach macl) memory) ≡
-    at mode (state r' (control pc' sr gbr vbr pr mach macl) memory')
+abbrev pub Enters : (number saved : ℕ) → Control → (r memory : List ℕ) → Mode → Control → (r' memory' : List ℕ) → Type 0
+Enters number saved c r memory mode c' r' memory' =
+    raise number saved (state r c memory) ≡ at mode (state r' c' memory')
 
 -- What can come of an attempt: in a slot nothing jumps, delays or traps, and a halted machine attempts nothing.
 abbrev pub Admits : Mode → Flow → Type 0
@@ -35,19 +32,12 @@ Admits (Slot target) Illegal = Unit {0}
 Admits Asleep flow = ⊥
 Admits (Stopped reason) flow = ⊥
 
-abbrev pub Settles :
-    (flow : Flow) (mode : Mode) (pc sr vbr : ℕ) (r memory : List ℕ) (mode' : Mode) (pc' : ℕ) (r' memory' : List ℕ) → Type 0
-Settles flow mode pc sr vbr r memory mode' pc' r' memory' =
-    (gbr pr mach macl : ℕ) →
-    settle flow mode (state r (control pc sr gbr vbr pr mach macl) memory) (state r (control pc sr gbr vbr pr mach macl) memory) ≡
-    at mode' (state r' (control pc' sr gbr vbr pr mach macl) memory')
+abbrev pub Settles : Flow → Mode → Control → (r memory : List ℕ) → Mode → Control → (r' memory' : List ℕ) → Type 0
+Settles flow mode c r memory mode' c' r' memory' =
+    settle flow mode (state r c memory) (state r c memory) ≡ at mode' (state r' c' memory')
 
-abbrev pub Advances :
-    (mode : Mode) (pc sr gbr vbr pr mach macl : ℕ) (r memory : List ℕ) →
-    (mode' : Mode) (pc' sr' gbr' vbr' pr' mach' macl' : ℕ) (r' memory' : List ℕ) → Type 0
-Advances mode pc sr gbr vbr pr mach macl r memory mode' pc' sr' gbr' vbr' pr' mach' macl' r' memory' =
-    step (at mode (state r (control pc sr gbr vbr pr mach macl) memory)) ≡
-    at mode' (state r' (control pc' sr' gbr' vbr' pr' mach' macl') memory')
+abbrev pub Advances : Machine → List ℕ → Machine → List ℕ → Type 0
+Advances m memory m' memory' = step (over m memory) ≡ over m' memory'
 
 -- A run that is not refused.
 abbrev pub RunsAccepted : ℕ → Machine → List ℕ → Answer → List ℕ → Type 0

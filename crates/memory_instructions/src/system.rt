@@ -9,47 +9,35 @@ use memory::{Access, Long};
 use std::num::wrapping_add_u32;
 
 #[tactic(auto, unfolding(instructions::specs::Execute::execute))]
-pub fn load_control(register: ControlRegister, m: u8, control: Control, r: &[u32; 16]) -> Control
-    ensures { (memory : List ℕ) → Performs (Meaning.LoadControl register m) control r.now memory Flow.Next result r.now memory }
+pub fn load_control(register: ControlRegister, m: u8, control: &mut Control, r: &[u32; 16])
+    ensures { (memory : List ℕ) → Performs (Meaning.LoadControl register m) control.old r.now memory Flow.Next control.new r.now memory }
 {
-    control.with_register(register, r[(m % 16) as usize])
-}
-
-// What LDC.L and LDS.L give.
-#[derive(Clone, Copy)]
-pub struct Popped {
-    pub control: Control,
-    pub flow: Flow,
+    control.set_register(register, r[(m % 16) as usize]);
 }
 
 #[tactic(auto, unfolding(instructions::specs::Execute::execute))]
 pub fn load_control_long(
     register: ControlRegister,
     m: u8,
-    control: Control,
+    control: &mut Control,
     r: &mut [u32; 16],
     memory: &[u8],
-) -> Popped
-    ensures { Performs (Meaning.LoadControlLong register m) control r.old memory.now result.flow result.control r.new memory.now }
+) -> Flow
+    ensures { Performs (Meaning.LoadControlLong register m) control.old r.old memory.now result control.new r.new memory.now }
 {
     let from = (m % 16) as usize;
     let at = r[from];
     let Some(v) = Long::load(memory, at) else {
-        return Popped {
-            control,
-            flow: Flow::Fault,
-        };
+        return Flow::Fault;
     };
     r[from] = wrapping_add_u32(at, 4);
-    Popped {
-        control: control.with_register(register, v),
-        flow: Flow::Next,
-    }
+    control.set_register(register, v);
+    Flow::Next
 }
 
 #[tactic(auto, unfolding(instructions::specs::Execute::execute))]
-pub fn store_control(register: ControlRegister, n: u8, control: Control, r: &mut [u32; 16])
-    ensures { (memory : List ℕ) → Performs (Meaning.StoreControl register n) control r.old memory Flow.Next control r.new memory }
+pub fn store_control(register: ControlRegister, n: u8, control: &Control, r: &mut [u32; 16])
+    ensures { (memory : List ℕ) → Performs (Meaning.StoreControl register n) control.now r.old memory Flow.Next control.now r.new memory }
 {
     r[(n % 16) as usize] = control.register(register);
 }
@@ -58,11 +46,11 @@ pub fn store_control(register: ControlRegister, n: u8, control: Control, r: &mut
 pub fn store_control_long(
     register: ControlRegister,
     n: u8,
-    control: Control,
+    control: &Control,
     r: &mut [u32; 16],
     memory: &mut [u8],
 ) -> Flow
-    ensures { Performs (Meaning.StoreControlLong register n) control r.old memory.old result control r.new memory.new }
+    ensures { Performs (Meaning.StoreControlLong register n) control.now r.old memory.old result control.now r.new memory.new }
 {
     let into = (n % 16) as usize;
     let at = sums::sub(4, r[into]);

@@ -3,30 +3,30 @@
 use Rattle.std.proofs.Common.{rules}
 use Rattle.memory.proofs.Laws.{accessible_after_store}
 use Rattle.instructions.specs.Promises.{state}
-use Rattle.instructions.specs.State.{State, control}
+use Rattle.instructions.specs.State.{State}
 use Rattle.instructions.proofs.Answers.{met}
 use Rattle.machine.proofs.Entries.{enters, first_push_fails, store_done, second_push_fails, vector_fails}
 use Rattle.machine.proofs.exceptions.enter.Goals as goal
 
 pub returns-then-not-accessible : goal.returns-then-not-accessible
-returns-then-not-accessible c = λ gbr pr mach macl.
+returns-then-not-accessible c =
     let a = c.args in
-    let s : State = state a.r.now (control a.pc.now a.sr gbr a.vbr pr mach macl) a.memory.now in
-    first_push_fails a.number a.saved a.sr s {lower = c.wrapping_sub_u32-at_pc.result} (search rules) (search rules) c.wrapping_add_u32-vector.ensures.value
+    let s : State = state a.r.now a.control.now a.memory.now in
+    first_push_fails a.number a.saved a.control.now.sr s {lower = c.wrapping_sub_u32-at_pc.result} (search rules) (search rules) c.wrapping_add_u32-vector.ensures.value
     (met c.accessible.ensures c.if-not-accessible.true)
 
 pub returns-then-not-accessible-2 : goal.returns-then-not-accessible-2
-returns-then-not-accessible-2 c = λ gbr pr mach macl.
+returns-then-not-accessible-2 c =
     let a = c.args in
-    let s : State = state a.r.now (control a.pc.now a.sr gbr a.vbr pr mach macl) a.memory.now in
-    second_push_fails a.number a.saved a.sr s {low = c.wrapping_sub_u32-at_sr.result} (search rules) (search rules) c.wrapping_add_u32-vector.ensures.value
+    let s : State = state a.r.now a.control.now a.memory.now in
+    second_push_fails a.number a.saved a.control.now.sr s {low = c.wrapping_sub_u32-at_sr.result} (search rules) (search rules) c.wrapping_add_u32-vector.ensures.value
     (met c.accessible-2.ensures c.if-not-accessible-2.true)
 
 pub returns-then-not-accessible-3 : goal.returns-then-not-accessible-3
-returns-then-not-accessible-3 c = λ gbr pr mach macl.
+returns-then-not-accessible-3 c =
     let a = c.args in
-    let s : State = state a.r.now (control a.pc.now a.sr gbr a.vbr pr mach macl) a.memory.now in
-    vector_fails a.number a.saved a.sr s (search rules) (search rules) c.wrapping_add_u32-vector.ensures.value
+    let s : State = state a.r.now a.control.now a.memory.now in
+    vector_fails a.number a.saved a.control.now.sr s (search rules) (search rules) c.wrapping_add_u32-vector.ensures.value
     (met c.accessible.ensures c.if-not-accessible.false) (met c.accessible-2.ensures c.if-not-accessible-2.false)
     (met c.accessible-3.ensures c.if-not-accessible-3.true)
 
@@ -39,16 +39,16 @@ unwrap-requires-2 c =
     (rw (c.store.ensures.leaves, accessible_after_store 4 _ _ _ 4 _) (met c.accessible-2.ensures c.if-not-accessible-2.false)))
     (search rules)
 
-pub long_at-requires : goal.long_at-requires
-long_at-requires c =
+pub long_at-control-requires : goal.long_at-control-requires
+long_at-control-requires c =
     rw (c.store-2.ensures.leaves, accessible_after_store 4 _ _ _ 4 _, c.store.ensures.leaves, accessible_after_store 4 _ _ _ 4 _)
     (met c.accessible-3.ensures c.if-not-accessible-3.false)
 
 pub returns : goal.returns
-returns c = λ gbr pr mach macl.
+returns c =
     let a = c.args in
-    let s : State = state a.r.now (control a.pc.now a.sr gbr a.vbr pr mach macl) a.memory.now in
-    enters a.number a.saved a.sr s (search rules) (search rules) c.wrapping_add_u32-vector.ensures.value
+    let s : State = state a.r.now a.control.now a.memory.now in
+    enters a.number a.saved a.control.now.sr s (search rules) (search rules) c.wrapping_add_u32-vector.ensures.value
     (met c.accessible.ensures c.if-not-accessible.false) (met c.accessible-2.ensures c.if-not-accessible-2.false)
     (met c.accessible-3.ensures c.if-not-accessible-3.false)
-    c.store.ensures.leaves c.store-2.ensures.leaves c.long_at.ensures
+    c.store.ensures.leaves c.store-2.ensures.leaves c.long_at-control.ensures
