@@ -36,8 +36,8 @@ abbrev pub Settles : Flow → Mode → Control → (r memory : List ℕ) → Mod
 Settles flow mode c r memory mode' c' r' memory' =
     settle flow mode (state r c memory) (state r c memory) ≡ at mode' (state r' c' memory')
 
-abbrev pub Advances : Machine → List ℕ → Machine → List ℕ → Type 0
-Advances m memory m' memory' = step (over m memory) ≡ over m' memory'
+abbrev pub Advances : Mode → Control → (r memory : List ℕ) → Mode → Control → (r' memory' : List ℕ) → Type 0
+Advances mode c r memory mode' c' r' memory' = step (at mode (state r c memory)) ≡ at mode' (state r' c' memory')
 
 -- A run that is not refused.
 abbrev pub RunsAccepted : ℕ → Machine → List ℕ → Answer → List ℕ → Type 0

@@ -3,28 +3,24 @@ ghost use Rattle.std.specs.Prelude.{◌≡◌, false};
 ghost use Rattle.machine.specs.Step as Step;
 ghost use Rattle.machine.specs.Promises.{Admits, Advances, Settles};
 
-use crate::{Machine, Mode, exceptions};
+use crate::{Mode, exceptions};
 use instructions::{Control, Flow};
 use memory::{Access, Word};
 use std::num::wrapping_add_u32;
 
 // Of a machine that runs, in a slot or not.
-pub fn advance(machine: &mut Machine, memory: &mut [u8])
-    requires { Step.asleep_or_stopped machine.old.mode ≡ false }
-    ensures { Advances machine.old memory.old machine.new memory.new }
+pub fn advance(mode: Mode, control: &mut Control, r: &mut [u32; 16], memory: &mut [u8]) -> Mode
+    requires { Step.asleep_or_stopped mode ≡ false }
+    ensures { Advances mode control.old r.old memory.old result control.new r.new memory.new }
 {
-    let mode = machine.mode;
-    let control = &mut machine.control;
-    let r = &mut machine.r;
     let at = control.pc;
     let Some(word) = Word::load(memory, at) else {
         let saved = mode.target_or(at);
-        machine.mode = exceptions::enter(exceptions::ADDRESS_ERROR, saved, control, r, memory);
-        return;
+        return exceptions::enter(exceptions::ADDRESS_ERROR, saved, control, r, memory);
     };
     let meaning = decoder::decode(word as u16);
     let flow = dispatch::attempt(meaning, mode.is_slot(), control, r, memory);
-    machine.mode = settle(flow, mode, control, r, memory);
+    settle(flow, mode, control, r, memory)
 }
 
 fn settle(

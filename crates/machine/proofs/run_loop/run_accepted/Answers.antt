@@ -9,8 +9,8 @@ pub loop-taken-init : goal.loop-taken-init
 loop-taken-init c =
     begins _ _
 
-pub advance-requires : goal.advance-requires
-advance-requires c =
+pub advance-mode-requires : goal.advance-mode-requires
+advance-mode-requires c =
     met c.is_halted.ensures c.if-not-is_halted.true
 
 pub overflow_add-taken : goal.overflow_add-taken
@@ -23,7 +23,7 @@ loop-taken-smaller c =
 
 pub loop-taken-preserved : goal.loop-taken-preserved
 loop-taken-preserved c =
-    goes_on _ _ _ _ c.loop-taken.invariant _ c.loop-taken-test.true (met c.is_halted.ensures c.if-not-is_halted.true) c.advance.ensures
+    goes_on _ _ _ _ c.loop-taken.invariant _ c.loop-taken-test.true (met c.is_halted.ensures c.if-not-is_halted.true) c.advance-mode.ensures
 
 pub returns-after-loop-taken : goal.returns-after-loop-taken
 returns-after-loop-taken c =

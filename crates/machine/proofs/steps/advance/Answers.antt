@@ -13,14 +13,14 @@ pub overflow_cast-word : goal.overflow_cast-word
 overflow_cast-word c =
     record { fits = load_small 2 _ _ _ (λ i. search rules) (met c.load.ensures c.in-Some.is) }
 
-pub settle-machine-requires : goal.settle-machine-requires
-settle-machine-requires c =
+pub settle-requires : goal.settle-requires
+settle-requires c =
     let a = c.args in
     let d = c.attempt-flow in
     let n = d.new in
-    let before : State = state a.machine.now.r a.machine.now.control a.memory.now in
+    let before : State = state a.r.now a.control.now a.memory.now in
     let after : State = state n.r n.control n.memory in
-    admits_flow a.machine.now.mode (meaning c.in-Some.word) before d.result after c.requires
+    admits_flow a.mode (meaning c.in-Some.word) before d.result after c.requires
     (rw (sym c.is_slot.ensures, sym c.decode-meaning.ensures) d.ensures)
 
 pub returns : goal.returns
@@ -28,15 +28,15 @@ returns c =
     let a = c.args in
     let d = c.attempt-flow in
     let n = d.new in
-    let before : State = state a.machine.now.r a.machine.now.control a.memory.now in
+    let before : State = state a.r.now a.control.now a.memory.now in
     let after : State = state n.r n.control n.memory in
-    step_settles a.machine.now.mode before c.in-Some.word d.result after c.requires (met c.load.ensures c.in-Some.is)
+    step_settles a.mode before c.in-Some.word d.result after c.requires (met c.load.ensures c.in-Some.is)
     (rw (sym c.is_slot.ensures, sym c.decode-meaning.ensures) d.ensures)
-    ∙ c.settle-machine.ensures
+    ∙ c.settle.ensures
 
 pub returns-in_default : goal.returns-in_default
 returns-in_default c =
     let a = c.args in
-    let before : State = state a.machine.now.r a.machine.now.control a.memory.now in
-    fetch_fails a.machine.now.mode before c.requires (met c.load.ensures c.in_default.is)
-    ∙ rw (sym c.target_or-saved.ensures) c.enter-machine.ensures
+    let before : State = state a.r.now a.control.now a.memory.now in
+    fetch_fails a.mode before c.requires (met c.load.ensures c.in_default.is)
+    ∙ rw (sym c.target_or-saved.ensures) c.enter.ensures
