@@ -17,11 +17,11 @@ fn digit(case: Case, d: u32) -> u8
     ensures { result ≡ Text.digit case d }
 {
     if d < 10 {
-        return 48 + d as u8;
+        return b'0' + d as u8;
     }
     match case {
-        Case::Lower => 87 + d as u8,
-        Case::Upper => 55 + d as u8,
+        Case::Lower => b'a' + (d - 10) as u8,
+        Case::Upper => b'A' + (d - 10) as u8,
     }
 }
 
@@ -52,8 +52,8 @@ pub fn decimal(buffer: &mut [u8], at: usize, k: u32, n: u32) -> usize
         return at;
     }
     if n < 10 {
-        return put(buffer, at, 48 + n as u8);
+        return put(buffer, at, b'0' + n as u8);
     }
     let place = decimal(buffer, at, k - 1, n / 10);
-    put(buffer, place, 48 + (n % 10) as u8)
+    put(buffer, place, b'0' + (n % 10) as u8)
 }

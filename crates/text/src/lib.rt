@@ -7,4 +7,4 @@ mod reading;
 
 pub use digits::{Case, decimal, hex, hex_in};
 pub use pages::write;
-pub use reading::{Letters, Read, digit_value, hex_value, is_digit, value_of_digit};
+pub use reading::{Letters, digit_value, hex_value, is_digit, value_of_digit};

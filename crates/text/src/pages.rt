@@ -17,10 +17,8 @@ pub fn write(buffer: &mut [u8], at: usize, text: &[u8]) -> usize
     ensures { Writes text.now buffer.old at buffer.new result }
 {
     let mut place = at;
-    let mut i = 0;
-    while i < text.len() {
-        place = put(buffer, place, text[i]);
-        i += 1;
+    for byte in text {
+        place = put(buffer, place, *byte);
     }
     place
 }

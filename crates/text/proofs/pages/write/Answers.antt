@@ -4,10 +4,10 @@ use Rattle.std.proofs.Common.{◌∙◌}
 use Rattle.text.proofs.Writes.{next, past}
 use Rattle.text.proofs.pages.write.Goals as goal
 
-pub loop-i-preserved : goal.loop-i-preserved
-loop-i-preserved c =
-    let now = c.loop-i in
-    next c.args.text.now now.buffer now.i now.place c.loop-i-test.true c.put-place.ensures ∙ now.invariant
+pub loop-byte-preserved : goal.loop-byte-preserved
+loop-byte-preserved c =
+    let now = c.loop-byte in
+    next c.args.text.now now.buffer now.byte-index now.place c.loop-byte-test.true c.put-place.ensures ∙ now.invariant
 
 pub returns : goal.returns
-returns c = past _ _ _ c.loop-i-test.false ∙ c.loop-i.invariant
+returns c = past _ _ _ c.loop-byte-test.false ∙ c.loop-byte.invariant
