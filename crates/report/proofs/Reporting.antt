@@ -11,7 +11,7 @@ use lib.Seq.{length-take-le}
 use Rattle.machine.specs.Calls.{Called, called, refusal_number, reset_by, run_call}
 use Rattle.machine.specs.Situation.{machine_of}
 use Rattle.machine.specs.declared.Answer.{Answer}
-use Rattle.text.specs.Writing.{Page, Writes}
+use Rattle.text.specs.Writing.{Page, page, write}
 use Rattle.text.proofs.Filling.{written}
 use Rattle.report.specs.Report.{Reports, Roomy, answer_text, outcome, refused_image, report, run_from}
 
@@ -33,7 +33,7 @@ module _ (image : List ℕ) (start : Answer) (begun : called start image ≡ res
 pub reported :
     (image buffer : List ℕ) (a : Answer) {after filled : List ℕ} {n : ℕ} →
     called a after ≡ outcome image →
-    Writes (answer_text (refusal_number a.refusal) a.machine a.steps) buffer 0 filled n →
+    page filled n ≡ write (answer_text (refusal_number a.refusal) a.machine a.steps) (page buffer 0) →
     Reports image after buffer filled n
 reported image buffer a {after} {filled} {n} came writes =
     let said = answer_text (refusal_number a.refusal) a.machine a.steps in

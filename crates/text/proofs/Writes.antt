@@ -8,7 +8,7 @@ use Rattle.std.proofs.lemmas.List.{take_more}
 use Rattle.text.specs.declared.pages.Page as lent
 use Rattle.text.specs.Writing.{Page, Writes, page, put, seen, write}
 
-write_append : (x y : List ℕ) (p : Page) → write (x ++ y) p ≡ write y (write x p)
+pub write_append : (x y : List ℕ) (p : Page) → write (x ++ y) p ≡ write y (write x p)
 unfolding write
 write_append [] y p = refl
 write_append (byte ∷ x) y p = write_append x y (put byte p)

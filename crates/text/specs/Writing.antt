@@ -10,7 +10,7 @@ pub record Page : Type 0 where
 abbrev pub page : List ℕ → ℕ → Page
 page bytes place = record { bytes = bytes; place = place }
 
-abbrev pub put : ℕ → Page → Page
+unfoldable pub put : ℕ → Page → Page
 put byte p = cond (ltb p.place (length p.bytes)) (page (set p.bytes p.place byte) (p.place + 1)) p
 
 unfoldable pub write : List ℕ → Page → Page

@@ -11,7 +11,7 @@ pub struct Page<'a> {
 
 impl Page<'_> {
     // Writes one byte, where there is room.
-    #[tactic(auto, unfolding(crate::specs::Writing::write))]
+    #[tactic(auto, unfolding(crate::specs::Writing::put, crate::specs::Writing::write))]
     pub fn put(&mut self, byte: u8)
         ensures { Writes (byte ∷ []) self.old self.new }
     {
