@@ -11,8 +11,6 @@ use instructions::Control;
 use machine::{Answer, Machine, Mode};
 use text::Page;
 
-const GENERAL_REGISTERS: usize = 16;
-
 pub fn answer_text(page: &mut Page, answer: Answer)
     ensures { Writes (Report.answer_text (refusal_number answer.refusal) answer.machine answer.steps) page.old page.new }
 {
@@ -85,8 +83,8 @@ fn target_line(page: &mut Page, mode: Mode)
 fn general_lines(page: &mut Page, r: &[u32; 16])
     ensures { Writes (Report.general_lines 16 r.now) page.old page.new }
 {
-    for k in 0..GENERAL_REGISTERS {
-        general_line(page, k as u32, r[k]);
+    for (k, value) in r.iter().enumerate() {
+        general_line(page, k as u32, *value);
     }
 }
 
