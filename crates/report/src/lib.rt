@@ -22,8 +22,8 @@ pub fn buffer() -> [u8; 347]
 pub fn report(memory: &mut [u8], buffer: &mut [u8]) -> usize
     ensures { Reports memory.old memory.new buffer.old buffer.new result }
 {
-    let answer = outcomes::outcome(memory);
+    let outcome = outcomes::outcome(memory);
     let mut page = Page { buffer, place: 0 };
-    lines::answer_text(&mut page, answer);
+    lines::answer_text(&mut page, outcome);
     page.place
 }

@@ -1,26 +1,31 @@
 // The lines of a report.
-#![tactic(auto, using(text::proofs::Writes::nothing, text::proofs::Writes::write_append), unfolding(text::specs::Writing::write, crate::specs::Report::answer_text, crate::specs::Report::state_line, crate::specs::Report::mode_text, crate::specs::Report::pc_line, crate::specs::Report::target_line, crate::specs::Report::value_text, crate::specs::Report::register_line, crate::specs::Report::control_lines))]
+#![tactic(auto, using(text::proofs::Writes::nothing, text::proofs::Writes::write_append), unfolding(text::specs::Writing::write, crate::specs::Report::state_line, crate::specs::Report::mode_text, crate::specs::Report::pc_line, crate::specs::Report::target_line, crate::specs::Report::value_text, crate::specs::Report::register_line, crate::specs::Report::control_lines))]
 
-ghost use Rattle.std.specs.Prelude.{◌++◌};
+ghost use Rattle.std.specs.Prelude.{◌++◌, IfErr, IfOk};
 ghost use Rattle.machine.specs.Calls.{refusal_number};
 ghost use Rattle.report.specs.Report as Report;
 ghost use Rattle.text.specs.Text as Text;
 ghost use Rattle.text.specs.Writing.{Writes};
 
 use instructions::Control;
-use machine::{Answer, Machine, Mode};
+use machine::{Answer, Machine, Mode, Refusal, Refused};
 use text::Page;
 
-pub fn answer_text(page: &mut Page, answer: Answer)
-    ensures { Writes (Report.answer_text (refusal_number answer.refusal) answer.machine answer.steps) page.old page.new }
+pub fn answer_text(page: &mut Page, outcome: Result<Answer, Refused>)
+    ensures ran { IfOk outcome (λ answer. Writes (Report.machine_text answer.machine answer.steps) page.old page.new) }
+    ensures refused { IfErr outcome (λ refused. Writes (Report.refusal_text (refusal_number refused.refusal)) page.old page.new) }
 {
-    let refusal = answer.refusal;
-    let number = refusal.number();
-    if number == 0 {
-        return machine_text(page, answer.machine, answer.steps);
+    match outcome {
+        Ok(answer) => machine_text(page, answer.machine, answer.steps),
+        Err(refused) => refusal_text(page, refused.refusal),
     }
+}
+
+fn refusal_text(page: &mut Page, refusal: Refusal)
+    ensures { Writes (Report.refusal_text (refusal_number refusal)) page.old page.new }
+{
     page.write(b"refused ");
-    page.decimal(1, number);
+    page.decimal(1, u32::from(refusal));
     page.write(b"\n");
 }
 
@@ -54,7 +59,7 @@ fn mode_text(page: &mut Page, mode: Mode)
         Mode::Asleep => page.write(b"asleep"),
         Mode::Stopped(reason) => {
             page.write(b"stopped ");
-            page.decimal(1, reason.number());
+            page.decimal(1, u32::from(reason));
         }
     }
 }
