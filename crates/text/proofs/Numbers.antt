@@ -1,40 +1,33 @@
--- A number is written by its last digit behind the others.
+-- A number's text by its last digit.
 -- Assumes nothing.
 use mathlib.Core.Path.{◌≡◌}
-use mathlib.Core.List.{[], ◌∷◌}
+use mathlib.Core.List.{[], ◌∷◌, ◌++◌}
 use Prim.Native.Nat.{ℕ, zero, suc, ◌-◌, ◌/◌, ◌%◌, ◌<◌, ◌≤◌}
 use native.Mathlib.Nat.{not-suc-le-zero}
 use native.Mathlib.Numerals.{sub-one}
 use borrow.Author.Tests.{le-ltb, lt-ltb}
 use Rattle.text.specs.Text.{decimal, digit, figure, hex_in}
-use Rattle.text.specs.Writing.{Writes}
 use Rattle.text.specs.declared.digits.Case.{Case}
-use Rattle.text.specs.declared.pages.Page.{Page}
-use Rattle.text.proofs.Writes.{and_then, nothing}
 
-pub no_hex : (case : Case) (k n : ℕ) (p : Page) → k ≡ 0 → Writes (hex_in case k n) p p
+pub hex_none : (case : Case) (k n : ℕ) → k ≡ 0 → hex_in case k n ≡ []
 unfolding hex_in
-no_hex case k n p none = rw none (nothing p)
+hex_none case k n none = rw none
 
-pub hex_more :
-    (case : Case) (k n d : ℕ) (p q r : Page) →
-    1 ≤ k → Writes (hex_in case (k - 1) (n / 16)) p q → d ≡ digit case (n % 16) → Writes (d ∷ []) q r → Writes (hex_in case k n) p r
+pub hex_last : (case : Case) (k n : ℕ) → 1 ≤ k → hex_in case k n ≡ hex_in case (k - 1) (n / 16) ++ (digit case (n % 16) ∷ [])
 unfolding hex_in
-hex_more case zero n d p q r some before last one = absurd (not-suc-le-zero some)
-hex_more case (suc k) n d p q r some before last one = and_then (rw (sub-one (suc k)) at before) (rw last at one)
+hex_last case zero n some = absurd (not-suc-le-zero some)
+hex_last case (suc k) n some = rw (sub-one (suc k))
 
-pub no_decimal : (k n : ℕ) (p : Page) → k ≡ 0 → Writes (decimal k n) p p
+pub decimal_none : (k n : ℕ) → k ≡ 0 → decimal k n ≡ []
 unfolding decimal
-no_decimal k n p none = rw none (nothing p)
+decimal_none k n none = rw none
 
-pub decimal_one : (k n : ℕ) → 1 ≤ k → n < 10 → figure n ∷ [] ≡ decimal k n
+pub decimal_one : (k n : ℕ) → 1 ≤ k → n < 10 → decimal k n ≡ figure n ∷ []
 unfolding decimal
 decimal_one zero n some small = absurd (not-suc-le-zero some)
 decimal_one (suc k) n some small = rw (lt-ltb n 10 small)
 
-pub decimal_more :
-    (k n : ℕ) (p q r : Page) →
-    1 ≤ k → 10 ≤ n → Writes (decimal (k - 1) (n / 10)) p q → Writes (figure (n % 10) ∷ []) q r → Writes (decimal k n) p r
+pub decimal_last : (k n : ℕ) → 1 ≤ k → 10 ≤ n → decimal k n ≡ decimal (k - 1) (n / 10) ++ (figure (n % 10) ∷ [])
 unfolding decimal
-decimal_more zero n p q r some large before last = absurd (not-suc-le-zero some)
-decimal_more (suc k) n p q r some large before last = rw (le-ltb n 10 large) (and_then (rw (sub-one (suc k)) at before) last)
+decimal_last zero n some large = absurd (not-suc-le-zero some)
+decimal_last (suc k) n some large = rw (le-ltb n 10 large, sub-one (suc k))

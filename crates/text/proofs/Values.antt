@@ -1,12 +1,10 @@
 -- Laws of reading: the value of a digit, a text's digits one by one, and that what is written is read back.
 -- Assumes nothing.
-use Rattle.std.proofs.Common.{◌≡◌, ◌∙◌, refl, sym, ap, ℕ, zero, suc, ◌+◌, ◌-◌, ◌*◌, ◌/◌, ◌%◌, ◌^◌, ◌<◌, ◌≤◌, Bool, true, false, ◌||◌, Option, Some, None, is_some, option_and_then, List, [], ◌∷◌, ◌++◌, length, get_or, drop, slice_range, le_refl, add-one, arith, drop-cons, drop_of_length-le, length-drop, mod-eq_of_lt, pow-suc, take_all}
-use native.Mathlib.Nat.{sub-zero}
-use borrow.Author.Tests.{le-ltb}
+use Rattle.std.proofs.Common.{◌≡◌, ◌∙◌, refl, sym, ap, ℕ, zero, suc, ◌+◌, ◌*◌, ◌/◌, ◌%◌, ◌^◌, ◌<◌, ◌≤◌, Bool, true, false, ◌||◌, Option, Some, None, is_some, option_and_then, List, [], ◌∷◌, ◌++◌, length, get_or, drop, add-one, arith, drop-cons, drop_of_length-le, mod-eq_of_lt, pow-suc}
 use Rattle.std.proofs.Math.Arith.{mod-mul}
 use Rattle.std.proofs.Math.Nat.{one-le-pow}
 use Rattle.std.proofs.lemmas.Bool.Decides.{nat_tests}
-use Rattle.text.specs.Reading.{FromLowBits, between, cut_to_long, digit_value, digits_at, read_on, value}
+use Rattle.text.specs.Reading.{FromLowBits, between, cut_to_long, digit_value, read_on, value}
 use Rattle.text.specs.Text.{digit, hex_in}
 use Rattle.text.specs.declared.digits.Case.{Case}
 use Rattle.text.specs.declared.digits.Case.TheVariants.{Lower, Upper}
@@ -34,16 +32,6 @@ same_low letters (byte ∷ rest) a b e =
     (λ h. cut_to_long (option_and_then (λ d. read_on letters (a * 16 + d) rest) h) ≡
     cut_to_long (option_and_then (λ d. read_on letters (b * 16 + d) rest) h))
     (digit_value letters byte) (λ d. same_low letters rest (a * 16 + d) (b * 16 + d) (omega arith)) refl
-
--- The k digits at a place, cut out of the text in two steps.
-pub cut_out :
-    (letters : Letters) (text rest digits : List ℕ) (at k : ℕ) → at ≤ length text → rest ≡ slice_range text at (length text) →
-    k ≤ length rest → digits ≡ slice_range rest 0 k → digits_at letters text at k ≡ value letters digits
-cut_out letters text rest digits at k begins from ends upto =
-    let all : length (drop at text) ≤ length text - at = rw (length-drop at text) (le_refl (length text - at)) in
-    let same : rest ≡ drop at text = from ∙ take_all (length text - at) (drop at text) all in
-    let room : at + k ≤ length text = omega (arith, rw (same, length-drop at text) at ends) in
-    rw (upto, sub-zero k, same, le-ltb (length text) (at + k) room)
 
 -- One digit of those still to be read, and none.
 pub reads_on :

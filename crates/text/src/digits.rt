@@ -6,7 +6,7 @@ ghost use Rattle.text.specs.Writing.{Writes};
 use crate::pages::Page;
 
 // The case of the letters a to f.
-#[derive(Clone, Copy)]
+#[derive(Clone, Copy, Debug, PartialEq, Eq)]
 pub enum Case {
     Lower,
     Upper,
@@ -27,7 +27,7 @@ fn digit(case: Case, d: u32) -> u8
 
 impl Page<'_> {
     // The last k hexadecimal digits.
-    #[tactic(auto, using(crate::proofs::Numbers::no_hex))]
+    #[tactic(auto, using(crate::proofs::Numbers::hex_none, crate::proofs::Numbers::hex_last, crate::proofs::Writes::nothing, crate::proofs::Writes::write_append))]
     pub fn hex_in(&mut self, case: Case, k: u32, n: u32)
         ensures { Writes (Text.hex_in case k n) self.old self.new }
     {
@@ -45,7 +45,7 @@ impl Page<'_> {
     }
 
     // Decimal, of at most k digits.
-    #[tactic(auto, using(crate::proofs::Numbers::no_decimal, crate::proofs::Numbers::decimal_one))]
+    #[tactic(auto, using(crate::proofs::Numbers::decimal_none, crate::proofs::Numbers::decimal_one, crate::proofs::Numbers::decimal_last, crate::proofs::Writes::nothing, crate::proofs::Writes::write_append))]
     pub fn decimal(&mut self, k: u32, n: u32)
         ensures { Writes (Text.decimal k n) self.old self.new }
     {

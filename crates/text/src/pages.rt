@@ -21,7 +21,7 @@ impl Page<'_> {
         }
     }
 
-    #[tactic(auto, using(crate::proofs::Writes::nothing, crate::proofs::Writes::one_more))]
+    #[tactic(auto, using(std::proofs::lemmas::Grind::take_at_read, crate::proofs::Writes::nothing, crate::proofs::Writes::write_append))]
     pub fn write(&mut self, text: &[u8])
         ensures { Writes text.now self.old self.new }
     {

@@ -3,7 +3,7 @@ ghost use Rattle.std.specs.Prelude.{◌≡◌, is_some};
 ghost use Rattle.text.specs.Reading as Reading;
 
 // Whether the letters A to F are read besides a to f.
-#[derive(Clone, Copy)]
+#[derive(Clone, Copy, Debug, PartialEq, Eq)]
 pub enum Letters {
     LowerCase,
     EitherCase,
@@ -32,6 +32,7 @@ pub fn digit_value(letters: Letters, byte: u8) -> Option<u32>
 }
 
 // The k digits at a place.
+#[tactic(auto, using(crate::proofs::Values::digit_small, crate::proofs::Values::reads_on, crate::proofs::Values::breaks_off, crate::proofs::Values::ends))]
 pub fn hex_value(text: &[u8], at: usize, letters: Letters, k: usize) -> Option<u32>
     ensures { result ≡ Reading.cut_to_long (Reading.digits_at letters text.now at k) }
 {

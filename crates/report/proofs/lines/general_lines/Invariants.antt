@@ -1,6 +1,5 @@
 -- `general_lines` has written the lines of the registers before k.
 -- Assumes nothing.
-
 use Rattle.text.specs.Writing.{Writes}
 use Rattle.report.specs.Report.{general_lines}
 use Rattle.report.proofs.lines.general_lines.Given as goal
