@@ -1,3 +1,2 @@
 pub mod Bounds
 pub mod Reporting
-pub mod Unwritten

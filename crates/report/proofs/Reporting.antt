@@ -1,43 +1,65 @@
 -- What an image leads to; what a report's text, written from the buffer's start, comes to; and that the promise allows one outcome.
 -- Assumes nothing.
-use mathlib.Core.Path.{◌≡◌, sym, ap, ◌∙◌}
-use mathlib.Core.Bool.{Bool, cond}
+use mathlib.Core.Path.{◌≡◌, refl, sym, ap, ◌∙◌}
+use mathlib.Core.Bool.{false}
 use mathlib.Core.List.{List, ◌++◌}
-use Prim.Native.Nat.{ℕ, ◌≤◌, min}
-use native.Mathlib.Nat.{min-le_left}
-use borrow.Author.Tests.{eq-eqb, ne_eqb}
+use Prim.Native.Nat.{ℕ, min}
+use lib.Dec.{eqb}
 use lib.ListN.{drop, length, replicate, take}
-use lib.Seq.{length-take-le}
 use Rattle.machine.specs.Calls.{Called, called, refusal_number, reset_by, run_call}
 use Rattle.machine.specs.Situation.{machine_of}
 use Rattle.machine.specs.declared.Answer.{Answer}
-use Rattle.text.specs.Writing.{Page, Writes}
+use Rattle.machine.specs.declared.Refusal.{Refusal}
+use Rattle.machine.specs.declared.Refusal.TheVariants.{Ragged, Size, Status}
+use Rattle.machine.specs.declared.Refused.{Refused}
+use Rattle.std.specs.Prelude.{IfErr, IfOk, Result, Ok, Err}
+use Rattle.text.specs.declared.pages.Page as lent
+use Rattle.text.specs.Writing.{Page, Writes, page, write}
 use Rattle.text.proofs.Filling.{written}
-use Rattle.report.specs.Report.{Reports, Roomy, answer_text, outcome, refused_image, report, run_from}
+use Rattle.report.specs.Report.{Reports, Roomy, answer_text, machine_text, outcome, refusal_text, refused_image, report, run_from}
+
+never_zero : (why : Refusal) → eqb (refusal_number why) 0 ≡ false
+never_zero Ragged = refl
+never_zero Size = refl
+never_zero Status = refl
 
 -- Where the reset is accepted, the outcome is that of the run; where it is refused, the reset's.
-module _ (image : List ℕ) (start : Answer) (begun : called start image ≡ reset_by (refused_image image) image) where
-  from : run_from (called start image) image ≡ outcome image
-  unfolding outcome
-  from = ap (λ (c : Called). run_from c image) begun
+pub goes_on :
+    (image : List ℕ) (start : Answer) →
+    called (Ok start) image ≡ reset_by (refused_image image) image → run_call 1000000 start.machine image ≡ outcome image
+unfolding outcome
+goes_on image start begun = ap (λ (c : Called). run_from c image) begun
 
-  abbrev going : Bool → Called
-  going accepted = cond accepted (run_call 1000000 start.machine image) (called start image)
+pub stays :
+    (image : List ℕ) (refused : Refused) →
+    called (Err refused) image ≡ reset_by (refused_image image) image → called (Err refused) image ≡ outcome image
+unfolding outcome
+stays image refused begun = rw (never_zero refused.refusal) at (ap (λ (c : Called). run_from c image) begun)
 
-  pub goes_on : refusal_number start.refusal ≡ 0 → run_call 1000000 start.machine image ≡ outcome image
-  goes_on accepted = ap going (sym (eq-eqb _ _ accepted)) ∙ from
+-- What is printed of what a call comes to.
+abbrev pub text_of : Called → List ℕ
+text_of c = answer_text c.refusal (machine_of c.ran.after) c.ran.steps
 
-  pub stays : (refusal_number start.refusal ≡ 0 → ⊥) → called start image ≡ outcome image
-  stays refused = ap going (sym (ne_eqb _ _ refused)) ∙ from
+pub answered :
+    (answer : Result Answer Refused) (memory : List ℕ) {p q : lent.Page} →
+    IfOk answer (λ a. Writes (machine_text a.machine a.steps) p q) →
+    IfErr answer (λ r. Writes (refusal_text (refusal_number r.refusal)) p q) → Writes (text_of (called answer memory)) p q
+unfolding answer_text
+answered (Ok answer) memory ran refused = ran
+answered (Err why) memory ran refused = rw (never_zero why.refusal) refused
+
+kept : (answer : Result Answer Refused) (memory : List ℕ) → (called answer memory).ran.after.state.memory ≡ memory
+kept (Ok answer) memory = refl
+kept (Err why) memory = refl
 
 pub reported :
-    (image buffer : List ℕ) (a : Answer) {after filled : List ℕ} {n : ℕ} →
-    called a after ≡ outcome image →
-    Writes (answer_text (refusal_number a.refusal) a.machine a.steps) buffer 0 filled n →
+    (image buffer : List ℕ) (answer : Result Answer Refused) (after : List ℕ) {filled : List ℕ} {n : ℕ} →
+    called answer after ≡ outcome image →
+    page filled n ≡ write (text_of (called answer after)) (page buffer 0) →
     Reports image after buffer filled n
-reported image buffer a {after} {filled} {n} came writes =
-    let said = answer_text (refusal_number a.refusal) a.machine a.steps in
-    let text : said ≡ report image = ap (λ (x : Called). answer_text x.refusal (machine_of x.ran.after) x.ran.steps) came in
+reported image buffer answer after {filled} {n} came writes =
+    let said = text_of (called answer after) in
+    let text : said ≡ report image = ap text_of came in
     let whole = writes ∙ written buffer said in
     let count : n ≡ min (length buffer) (length (report image)) =
     ap (λ (p : Page). p.place) whole ∙ ap (λ (t : List ℕ). min (length buffer) (length t)) text in
@@ -47,7 +69,7 @@ reported image buffer a {after} {filled} {n} came writes =
           ap (λ (p : Page). p.bytes) whole
           ∙ ap (λ (t : List ℕ). take (min (length buffer) (length t)) t ++ drop (min (length buffer) (length t)) buffer) text
           ∙ ap (λ (k : ℕ). take k (report image) ++ drop k buffer) (sym count);
-      leaves = ap (λ (x : Called). x.ran.after.state.memory) came;
+      leaves = sym (kept answer after) ∙ ap (λ (x : Called). x.ran.after.state.memory) came;
     }
 
 -- Two outcomes of a call coincide.
@@ -67,14 +89,6 @@ report_determined image buffer first second =
           first.fills ∙ ap (λ (k : ℕ). take k (report image) ++ drop k buffer) same ∙ sym second.fills;
       left = first.leaves ∙ sym second.leaves;
     }
-
--- What a program needs in order to lend the text: n is the length of the buffer's first n bytes.
-pub fits :
-    {image after buffer filled : List ℕ} {n : ℕ} → Reports image after buffer filled n → length filled ≡ length buffer →
-    n ≡ length (take n filled)
-fits {image} {after} {buffer} {filled} {n} made kept =
-    let within : n ≤ length filled = rw (kept, made.counts) (min-le_left (length buffer) (length (report image))) in
-    sym (length-take-le n filled within)
 
 -- `buffer` can only be its 347 zeros.
 pub buffer_determined : {b c : List ℕ} → (347 ≡ length b) × Roomy b → (347 ≡ length c) × Roomy c → b ≡ c

@@ -7,6 +7,8 @@ mod outcomes;
 ghost use Rattle.std.specs.Prelude.{◌≡◌, length};
 ghost use Rattle.report.specs.Report.{Reports, Roomy};
 
+use text::Page;
+
 // A buffer with room for every report, all zeros.
 pub fn buffer() -> [u8; 347]
     ensures value { 347 ≡ length result }
@@ -20,6 +22,8 @@ pub fn buffer() -> [u8; 347]
 pub fn report(memory: &mut [u8], buffer: &mut [u8]) -> usize
     ensures { Reports memory.old memory.new buffer.old buffer.new result }
 {
-    let answer = outcomes::outcome(memory);
-    lines::answer_text(buffer, answer)
+    let outcome = outcomes::outcome(memory);
+    let mut page = Page { buffer, place: 0 };
+    lines::answer_text(&mut page, outcome);
+    page.place
 }

@@ -1,137 +1,132 @@
 // The lines of a report.
-ghost use Rattle.std.specs.Prelude.{◌++◌};
+#![tactic(auto, using(text::proofs::Writes::nothing, text::proofs::Writes::write_append), unfolding(text::specs::Writing::write, crate::specs::Report::state_line, crate::specs::Report::mode_text, crate::specs::Report::pc_line, crate::specs::Report::target_line, crate::specs::Report::value_text, crate::specs::Report::register_line, crate::specs::Report::control_lines))]
+
+ghost use Rattle.std.specs.Prelude.{◌++◌, IfErr, IfOk};
 ghost use Rattle.machine.specs.Calls.{refusal_number};
 ghost use Rattle.report.specs.Report as Report;
 ghost use Rattle.text.specs.Text as Text;
 ghost use Rattle.text.specs.Writing.{Writes};
 
 use instructions::Control;
-use machine::{Answer, Machine, Mode};
-use text::{decimal, hex, write};
+use machine::{Answer, Machine, Mode, Refusal, Refused};
+use text::Page;
 
-const GENERAL_REGISTERS: usize = 16;
-
-pub fn answer_text(buffer: &mut [u8], answer: Answer) -> usize
-    ensures { Writes (Report.answer_text (refusal_number answer.refusal) answer.machine answer.steps) buffer.old 0 buffer.new result }
+pub fn answer_text(page: &mut Page, outcome: Result<Answer, Refused>)
+    ensures ran { IfOk outcome (λ answer. Writes (Report.machine_text answer.machine answer.steps) page.old page.new) }
+    ensures refused { IfErr outcome (λ refused. Writes (Report.refusal_text (refusal_number refused.refusal)) page.old page.new) }
 {
-    let refusal = answer.refusal;
-    let number = refusal.number();
-    if number == 0 {
-        return machine_text(buffer, answer.machine, answer.steps);
+    match outcome {
+        Ok(answer) => machine_text(page, answer.machine, answer.steps),
+        Err(refused) => refusal_text(page, refused.refusal),
     }
-    let place = write(buffer, 0, b"refused ");
-    let place = decimal(buffer, place, 1, number);
-    write(buffer, place, b"\n")
 }
 
-fn machine_text(buffer: &mut [u8], machine: Machine, steps: u32) -> usize
-    ensures { Writes (Report.machine_text machine steps) buffer.old 0 buffer.new result }
+fn refusal_text(page: &mut Page, refusal: Refusal)
+    ensures { Writes (Report.refusal_text (refusal_number refusal)) page.old page.new }
 {
-    let mode = machine.mode;
-    let control = machine.control;
-    let r = machine.r;
-    let place = state_line(buffer, 0, mode, steps);
-    let place = pc_line(buffer, place, control.pc, control.sr);
-    let place = target_line(buffer, place, mode);
-    let place = general_lines(buffer, place, r);
-    control_lines(buffer, place, control)
+    page.write(b"refused ");
+    page.decimal(1, u32::from(refusal));
+    page.write(b"\n");
 }
 
-fn state_line(buffer: &mut [u8], at: usize, mode: Mode, steps: u32) -> usize
-    ensures { Writes (Report.state_line mode steps) buffer.old at buffer.new result }
+#[tactic(auto, using(text::proofs::Writes::write_append), unfolding(crate::specs::Report::machine_text))]
+fn machine_text(page: &mut Page, machine: Machine, steps: u32)
+    ensures { Writes (Report.machine_text machine steps) page.old page.new }
 {
-    let place = write(buffer, at, b"state ");
-    let place = mode_text(buffer, place, mode);
-    let place = write(buffer, place, b" steps ");
-    let place = decimal(buffer, place, 10, steps);
-    write(buffer, place, b"\n")
+    state_line(page, machine.mode, steps);
+    pc_line(page, machine.control.pc, machine.control.sr);
+    target_line(page, machine.mode);
+    general_lines(page, &machine.r);
+    control_lines(page, &machine.control);
 }
 
-fn mode_text(buffer: &mut [u8], at: usize, mode: Mode) -> usize
-    ensures { Writes (Report.mode_text mode) buffer.old at buffer.new result }
+fn state_line(page: &mut Page, mode: Mode, steps: u32)
+    ensures { Writes (Report.state_line mode steps) page.old page.new }
+{
+    page.write(b"state ");
+    mode_text(page, mode);
+    page.write(b" steps ");
+    page.decimal(10, steps);
+    page.write(b"\n");
+}
+
+fn mode_text(page: &mut Page, mode: Mode)
+    ensures { Writes (Report.mode_text mode) page.old page.new }
 {
     match mode {
-        Mode::Running => write(buffer, at, b"running"),
-        Mode::Slot(_) => write(buffer, at, b"slot"),
-        Mode::Asleep => write(buffer, at, b"asleep"),
+        Mode::Running => page.write(b"running"),
+        Mode::Slot(_) => page.write(b"slot"),
+        Mode::Asleep => page.write(b"asleep"),
         Mode::Stopped(reason) => {
-            let place = write(buffer, at, b"stopped ");
-            decimal(buffer, place, 1, reason.number())
+            page.write(b"stopped ");
+            page.decimal(1, u32::from(reason));
         }
     }
 }
 
-fn pc_line(buffer: &mut [u8], at: usize, pc: u32, sr: u32) -> usize
-    ensures { Writes (Report.pc_line pc sr) buffer.old at buffer.new result }
+fn pc_line(page: &mut Page, pc: u32, sr: u32)
+    ensures { Writes (Report.pc_line pc sr) page.old page.new }
 {
-    let place = write(buffer, at, b"pc ");
-    let place = hex(buffer, place, 8, pc);
-    let place = write(buffer, place, b" sr ");
-    let place = hex(buffer, place, 8, sr);
-    write(buffer, place, b"\n")
+    page.write(b"pc ");
+    page.hex(8, pc);
+    page.write(b" sr ");
+    page.hex(8, sr);
+    page.write(b"\n");
 }
 
-fn target_line(buffer: &mut [u8], at: usize, mode: Mode) -> usize
-    ensures { Writes (Report.target_line mode) buffer.old at buffer.new result }
+fn target_line(page: &mut Page, mode: Mode)
+    ensures { Writes (Report.target_line mode) page.old page.new }
 {
-    match mode {
-        Mode::Slot(target) => {
-            let place = write(buffer, at, b"target ");
-            let place = hex(buffer, place, 8, target);
-            write(buffer, place, b"\n")
-        }
-        _ => at,
+    if let Mode::Slot(target) = mode {
+        page.write(b"target ");
+        page.hex(8, target);
+        page.write(b"\n");
     }
 }
 
-fn general_lines(buffer: &mut [u8], at: usize, r: [u32; 16]) -> usize
-    ensures { Writes (Report.general_lines 16 r) buffer.old at buffer.new result }
+#[tactic(auto, using(text::proofs::Writes::nothing, text::proofs::Writes::write_append), unfolding(crate::specs::Report::general_lines))]
+fn general_lines(page: &mut Page, r: &[u32; 16])
+    ensures { Writes (Report.general_lines 16 r.now) page.old page.new }
 {
-    let mut place = at;
-    let mut k = 0;
-    while k < GENERAL_REGISTERS {
-        place = general_line(buffer, place, k as u32, r[k]);
-        k += 1;
+    for (k, value) in r.iter().enumerate() {
+        general_line(page, k as u32, *value);
     }
-    place
 }
 
-fn general_line(buffer: &mut [u8], at: usize, k: u32, value: u32) -> usize
-    ensures { Writes (Report.register_line (Text.ascii "r" ++ Text.decimal 2 k) value) buffer.old at buffer.new result }
+fn general_line(page: &mut Page, k: u32, value: u32)
+    ensures { Writes (Report.register_line (Text.ascii "r" ++ Text.decimal 2 k) value) page.old page.new }
 {
-    if value == 0 {
-        return at;
+    if value != 0 {
+        page.write(b"r");
+        page.decimal(2, k);
+        value_text(page, value);
     }
-    let place = write(buffer, at, b"r");
-    let place = decimal(buffer, place, 2, k);
-    value_text(buffer, place, value)
 }
 
-fn control_lines(buffer: &mut [u8], at: usize, control: Control) -> usize
-    ensures { Writes (Report.control_lines control) buffer.old at buffer.new result }
+fn control_lines(page: &mut Page, control: &Control)
+    ensures { Writes (Report.control_lines control.now) page.old page.new }
 {
-    let place = register_line(buffer, at, b"gbr", control.gbr);
-    let place = register_line(buffer, place, b"vbr", control.vbr);
-    let place = register_line(buffer, place, b"pr", control.pr);
-    let place = register_line(buffer, place, b"mach", control.mach);
-    register_line(buffer, place, b"macl", control.macl)
+    register_line(page, b"gbr", control.gbr);
+    register_line(page, b"vbr", control.vbr);
+    register_line(page, b"pr", control.pr);
+    register_line(page, b"mach", control.mach);
+    register_line(page, b"macl", control.macl);
 }
 
-fn register_line(buffer: &mut [u8], at: usize, name: &[u8], value: u32) -> usize
-    ensures { Writes (Report.register_line name.now value) buffer.old at buffer.new result }
+fn register_line(page: &mut Page, name: &[u8], value: u32)
+    ensures { Writes (Report.register_line name.now value) page.old page.new }
 {
-    if value == 0 {
-        return at;
+    if value != 0 {
+        page.write(name);
+        value_text(page, value);
     }
-    let place = write(buffer, at, name);
-    value_text(buffer, place, value)
 }
 
 // What follows a register's name.
-fn value_text(buffer: &mut [u8], at: usize, value: u32) -> usize
-    ensures { Writes (Report.value_text value) buffer.old at buffer.new result }
+fn value_text(page: &mut Page, value: u32)
+    ensures { Writes (Report.value_text value) page.old page.new }
 {
-    let place = write(buffer, at, b" ");
-    let place = hex(buffer, place, 8, value);
-    write(buffer, place, b"\n")
+    page.write(b" ");
+    page.hex(8, value);
+    page.write(b"\n");
 }

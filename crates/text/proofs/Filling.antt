@@ -11,13 +11,14 @@ use lib.Seq.{append_snoc, set-append_seam}
 use Rattle.text.specs.Writing.{Page, page, put, write}
 
 full : (l text : List ℕ) → write text (page l (length l)) ≡ page l (length l)
-unfolding write
+unfolding put write
 full l [] = refl
 full l (byte ∷ text) = ap (write text) (rw (le-ltb (length l) (length l) (le_refl (length l)))) ∙ full l text
 
 -- A byte goes to the first place behind p.
 put_behind : (p : List ℕ) (old byte : ℕ) (rest : List ℕ) →
     put byte (page (p ++ old ∷ rest) (length p)) ≡ page (p ++ byte ∷ [] ++ rest) (length (p ++ byte ∷ []))
+unfolding put
 put_behind p old byte rest =
     let room : length p < length (p ++ old ∷ rest) = rw (length-append p (old ∷ rest)) (omega arith) in
     rw (lt-ltb _ _ room, set-append_seam p old rest byte, append_snoc p byte rest, length-append p (byte ∷ []))

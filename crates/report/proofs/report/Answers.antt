@@ -1,7 +1,14 @@
 -- `report` writes the text of the outcome.
 -- Assumes nothing.
-use Rattle.report.proofs.Reporting.{reported}
+use Rattle.std.proofs.Common.{rules}
+use Rattle.text.proofs.Writes.{left}
+use Rattle.report.proofs.Reporting.{answered, reported}
 use Rattle.report.proofs.report.Goals as goal
 
 pub returns : goal.returns
-returns c = let a = c.args in reported a.memory.now a.buffer.now c.outcome-answer.result c.outcome-answer.ensures c.answer_text.ensures
+returns c =
+    let a = c.args in
+    let called = c.outcome-outcome in
+    let text = c.answer_text.ensures in
+    let memory = called.new.memory in
+    reported a.memory.now a.buffer.now called.result memory called.ensures (left (answered called.result memory text.ran text.refused) (search rules))
