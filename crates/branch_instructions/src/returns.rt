@@ -4,7 +4,7 @@ ghost use Rattle.instructions.specs.State.{with_pr, with_sr};
 
 use decoder::{Meaning, Return};
 use instructions::{Control, Flow};
-use memory::{Loaded, Long};
+use memory::{Access, Long};
 use std::num::wrapping_add_u32;
 
 #[tactic(auto, unfolding(instructions::specs::Execute::execute))]
@@ -22,15 +22,13 @@ fn from_exception(sr: &mut u32, r: &mut [u32; 16], memory: &[u8]) -> Flow
     ensures { OnSr (Meaning.Return Return.Rte) sr.old r.old memory.now result sr.new r.new memory.now }
 {
     let top = r[15];
-    match Long::load(memory, top) {
-        Loaded::Value(pc) => match Long::load(memory, wrapping_add_u32(top, 4)) {
-            Loaded::Value(popped) => {
-                r[15] = wrapping_add_u32(top, 8);
-                *sr = popped & Control::SR_MASK;
-                Flow::Delay(pc)
-            }
-            Loaded::Fault => Flow::Fault,
-        },
-        Loaded::Fault => Flow::Fault,
-    }
+    let Some(pc) = Long::load(memory, top) else {
+        return Flow::Fault;
+    };
+    let Some(popped) = Long::load(memory, wrapping_add_u32(top, 4)) else {
+        return Flow::Fault;
+    };
+    r[15] = wrapping_add_u32(top, 8);
+    *sr = popped & Control::SR_MASK;
+    Flow::Delay(pc)
 }

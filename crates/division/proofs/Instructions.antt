@@ -6,10 +6,10 @@ use Prim.Native.Nat.{ℕ, ◌+◌, ◌%◌, ◌^◌, ◌≤◌, ◌<◌}
 use native.Mathlib.Omega.{arith}
 use borrow.Author.Tests.{eq-eqb, le-leb}
 use lib.ListN.{length}
+use Rattle.std.specs.Prelude.{Some}
 use Rattle.numbers.specs.Numbers.{low32}
 use Rattle.arithmetic.specs.Addresses.{following}
 use Rattle.memory.specs.Access.{accessible, value_at, loaded}
-use Rattle.memory.specs.declared.Loaded.TheVariants as loads
 use Rattle.decoder.specs.Code.{meaning, among}
 use Rattle.decoder.specs.Table.{table}
 use Rattle.decoder.specs.declared.meaning.Meaning.{Meaning}
@@ -50,14 +50,14 @@ means_div1 m n small small' =
 
 fetches :
     (memory : List ℕ) (address w : ℕ) → address % 2 ≡ 0 → address + 2 ≤ length memory → value_at 2 memory address ≡ w →
-    loaded 2 memory address ≡ loads.Value w
+    loaded 2 memory address ≡ Some w
 unfolding loaded accessible
 fetches memory address w even inside stands =
     rw (eq-eqb (address % 2) 0 even, le-leb (address + 2) (length memory) inside, stands)
 
 -- The step of any instruction that leads on to the next.
 steps_on :
-    (s after : State) (w : ℕ) (x : Meaning) (pc : ℕ) → loaded 2 s.memory s.control.pc ≡ loads.Value w → meaning w ≡ x →
+    (s after : State) (w : ℕ) (x : Meaning) (pc : ℕ) → loaded 2 s.memory s.control.pc ≡ Some w → meaning w ≡ x →
     execute x (following s.control.pc) s ≡ next after → low32 (s.control.pc + 2) ≡ pc →
     step (at Running s) ≡ at Running (changed (with_pc pc) after)
 unfolding step attempted

@@ -4,11 +4,9 @@ use mathlib.Core.Path.{◌≡◌, refl, sym, ◌∙◌}
 use mathlib.Core.Bool.{Bool, true, false, cond}
 use mathlib.Core.List.{List}
 use Prim.Native.Nat.{ℕ}
+use Rattle.std.specs.Prelude.{Err, None, Ok, Option, Result, Some, ⊤}
+use Rattle.memory.specs.declared.access.Fault as memory_fault
 use Rattle.memory.specs.Access.{accessible, answered, stored_at, written, Stores}
-use Rattle.memory.specs.declared.Loaded.{Loaded}
-use Rattle.memory.specs.declared.Loaded.TheVariants as loads
-use Rattle.memory.specs.declared.Stored.{Stored}
-use Rattle.memory.specs.declared.Stored.TheVariants as stores
 use Rattle.decoder.specs.declared.meaning.Size.{Size}
 use Rattle.decoder.specs.declared.meaning.Size.TheVariants.{Long}
 use Rattle.instructions.specs.Shapes.{Effect, after_load, leads, next, storing_and}
@@ -20,32 +18,32 @@ use Rattle.instructions.specs.declared.control.Flow.TheVariants.{Fault}
 pub met : {A : Type 0} {x y z : A} → x ≡ y → x ≡ z → y ≡ z
 met p q = sym p ∙ q
 
-passed : {A : Type 0} (test : Bool) (a b : A) → cond test stores.Done stores.Fault ≡ stores.Done → cond test a b ≡ a
+passed : {A : Type 0} (test : Bool) (a b : A) → cond {A = Result ⊤ memory_fault.Fault} test (Ok tt) (Err (record {})) ≡ Ok tt → cond test a b ≡ a
 passed true a b done = refl
 passed false a b done = cc
 
-missed : {A : Type 0} (test : Bool) (a b : A) → cond test stores.Done stores.Fault ≡ stores.Fault → cond test a b ≡ b
+missed : {A : Type 0} (test : Bool) (a b : A) → cond {A = Result ⊤ memory_fault.Fault} test (Ok tt) (Err (record {})) ≡ Err (record {}) → cond test a b ≡ b
 missed true a b failed = cc
 missed false a b failed = refl
 
-pub load_long : (l : Loaded) → l ≡ extended_load Long l
-load_long (loads.Value v) = refl
-load_long loads.Fault = refl
+pub load_long : (l : Option ℕ) → l ≡ extended_load Long l
+load_long (Some v) = refl
+load_long None = refl
 
 pub load_value :
-    (size : Size) (l : Loaded) (v : ℕ) (f : ℕ → Effect) (s : State) → extended_load size l ≡ loads.Value v →
+    (size : Size) (l : Option ℕ) (v : ℕ) (f : ℕ → Effect) (s : State) → extended_load size l ≡ Some v →
     after_load l s (λ w. f (extended size w)) ≡ f v
-load_value size (loads.Value w) v f s e = let same : extended size w ≡ v = cc in rw same
-load_value size loads.Fault v f s e = cc
+load_value size (Some w) v f s e = let same : extended size w ≡ v = cc in rw same
+load_value size None v f s e = cc
 
 pub load_failed :
-    (size : Size) (l : Loaded) (f : ℕ → Effect) (s : State) → extended_load size l ≡ loads.Fault → after_load l s f ≡ leads Fault s
-load_failed size (loads.Value w) f s e = cc
-load_failed size loads.Fault f s e = refl
+    (size : Size) (l : Option ℕ) (f : ℕ → Effect) (s : State) → extended_load size l ≡ None → after_load l s f ≡ leads Fault s
+load_failed size (Some w) f s e = cc
+load_failed size None f s e = refl
 
 pub store_done :
-    (k a v : ℕ) (s : State) (f : State → State) (answer : Stored) (after : List ℕ) → Stores k s.memory a v answer after →
-    answer ≡ stores.Done → storing_and k a v s f ≡ next (f (with_memory after s))
+    (k a v : ℕ) (s : State) (f : State → State) (answer : Result ⊤ memory_fault.Fault) (after : List ℕ) → Stores k s.memory a v answer after →
+    answer ≡ Ok tt → storing_and k a v s f ≡ next (f (with_memory after s))
 unfolding answered stored_at
 store_done k a v s f answer after promise done =
     let e = met promise.answers done in
@@ -56,8 +54,8 @@ store_done k a v s f answer after promise done =
     )
 
 pub store_failed :
-    (k a v : ℕ) (s : State) (f : State → State) (answer : Stored) (after : List ℕ) → Stores k s.memory a v answer after →
-    answer ≡ stores.Fault → storing_and k a v s f ≡ leads Fault (with_memory after s)
+    (k a v : ℕ) (s : State) (f : State → State) (answer : Result ⊤ memory_fault.Fault) (after : List ℕ) → Stores k s.memory a v answer after →
+    answer ≡ Err (record {}) → storing_and k a v s f ≡ leads Fault (with_memory after s)
 unfolding answered stored_at
 store_failed k a v s f answer after promise failed =
     let e = met promise.answers failed in

@@ -3,6 +3,7 @@
 use mathlib.Core.Path.{◌≡◌, refl}
 use Prim.Native.Nat.{ℕ, ◌+◌}
 use native.Mathlib.Nat.{mul-one}
+use Rattle.std.specs.Prelude.{None}
 use Rattle.numbers.specs.Numbers.{low32}
 use Rattle.decoder.specs.declared.meaning.Address.{Address}
 use Rattle.decoder.specs.declared.meaning.Address.TheVariants.{Indirect, Indexed, Displacement, GbrDisplacement}
@@ -16,7 +17,6 @@ use Rattle.decoder.specs.declared.meaning.MultiplyAdd.TheVariants.{MacL, MacW}
 use Rattle.decoder.specs.declared.meaning.Size.{Size}
 use Rattle.decoder.specs.declared.meaning.Size.TheVariants.{Byte, Word, Long}
 use Rattle.memory.specs.Access.{loaded}
-use Rattle.memory.specs.declared.Loaded.TheVariants as loads
 use Rattle.instructions.specs.declared.control.Flow.TheVariants.{Fault}
 use Rattle.instructions.specs.Execute.{execute}
 use Rattle.instructions.specs.Shapes.{leads, next, gives, gives_mac, loading, storing, storing_and, incremented, minus}
@@ -133,7 +133,7 @@ multiply_add MacW m n pc s = refl
 
 -- AND.B, OR.B, TST.B and XOR.B where the byte at @(R0,GBR) cannot be read.
 pub byte_failed :
-    (x : ImmediateByte) (i pc : ℕ) (s : State) → loaded 1 s.memory (low32 (s.control.gbr + reg 0 s)) ≡ loads.Fault →
+    (x : ImmediateByte) (i pc : ℕ) (s : State) → loaded 1 s.memory (low32 (s.control.gbr + reg 0 s)) ≡ None →
     execute (MeansImmediateByte x i) pc s ≡ leads Fault s
 unfolding execute
 byte_failed AndB i pc s failed = rw failed

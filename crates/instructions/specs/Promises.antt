@@ -1,9 +1,7 @@
 -- What the functions of the instructions promise: the clause of their instruction.
-use Rattle.std.specs.Prelude.{◌≡◌, Bool, List, ℕ, ◌+◌, ◌*◌, ◌<◌}
+use Rattle.std.specs.Prelude.{◌≡◌, Bool, List, ℕ, ◌+◌, ◌*◌, ◌<◌, None, Option, Some}
 use Rattle.numbers.specs.Numbers.{low32}
 use Rattle.numbers.specs.declared.WithT.{WithT}
-use Rattle.memory.specs.declared.Loaded.{Loaded}
-use Rattle.memory.specs.declared.Loaded.TheVariants as loads
 use Rattle.arithmetic.specs.Addresses.{following}
 use Rattle.arithmetic.specs.Transfers.{exts_b, exts_w}
 use Rattle.multiply.specs.declared.Mac.{Mac}
@@ -78,9 +76,9 @@ extended Byte v = exts_b v
 extended Word v = exts_w v
 extended Long v = v
 
-abbrev pub extended_load : Size → Loaded → Loaded
-extended_load size (loads.Value v) = loads.Value (extended size v)
-extended_load size loads.Fault = loads.Fault
+abbrev pub extended_load : Size → Option ℕ → Option ℕ
+extended_load size (Some v) = Some (extended size v)
+extended_load size None = None
 
 abbrev pub effective : Size → Address → State → ℕ
 effective size (Indirect r) s = reg r s

@@ -1,12 +1,10 @@
 -- The shapes of the instructions' effects, which the clauses of Execute.antt fill in.
-use Rattle.std.specs.Prelude.{cond, ℕ, ◌+◌}
+use Rattle.std.specs.Prelude.{cond, ℕ, ◌+◌, None, Option, Some}
 use Rattle.numbers.specs.Numbers.{low32}
 use Rattle.numbers.specs.declared.WithT.{WithT}
 use Rattle.multiply.specs.declared.Mac.{Mac}
 use Rattle.arithmetic.specs.Sums.{sub}
 use Rattle.memory.specs.Access.{accessible, loaded, written}
-use Rattle.memory.specs.declared.Loaded.{Loaded}
-use Rattle.memory.specs.declared.Loaded.TheVariants as loads
 use Rattle.instructions.specs.State.{State, reg, with_reg, changed, with_t, with_mac, with_macl, with_memory}
 use Rattle.instructions.specs.declared.control.Flow.{Flow}
 use Rattle.instructions.specs.declared.control.Flow.TheVariants.{Next, Fault}
@@ -40,9 +38,9 @@ gives_mac a s = next (changed (with_mac a.mach a.macl) s)
 
 -- Document 01, "One step", item 4: a data access "that is misaligned or outside: address error, and the instruction has no effect at all".
 -- The k bytes at an address are read, and f says what follows with their value.
-abbrev pub after_load : Loaded → State → (ℕ → Effect) → Effect
-after_load (loads.Value v) s f = f v
-after_load loads.Fault s f = leads Fault s
+abbrev pub after_load : Option ℕ → State → (ℕ → Effect) → Effect
+after_load (Some v) s f = f v
+after_load None s f = leads Fault s
 
 abbrev pub loading : (k address : ℕ) → State → (ℕ → Effect) → Effect
 loading k address s f = after_load (loaded k s.memory address) s f

@@ -6,7 +6,7 @@ ghost use Rattle.instructions.specs.State as State;
 use decoder::ControlRegister;
 
 // The control registers (document 000, section 2.2) and system registers (2.3).
-#[derive(Clone, Copy)]
+#[derive(Clone, Copy, Debug, PartialEq, Eq)]
 pub struct Control {
     pub pc: u32,
     pub sr: u32,
@@ -65,7 +65,7 @@ pub fn with_mqt(sr: u32, m: u32, q: u32, t: u32) -> u32
 }
 
 // Where an instruction leads. It does not know the PC's next value or the mode: what settles a step does.
-#[derive(Clone, Copy)]
+#[derive(Clone, Copy, Debug, PartialEq, Eq)]
 pub enum Flow {
     Next,
     // BF and BT, taken.

@@ -2,9 +2,8 @@
 -- that no promise leaves a choice.
 -- Assumes nothing.
 use Rattle.std.proofs.Common.{◌≡◌, ℕ, ◌+◌, ◌%◌, ◌≤◌, Bool, true, false, cond, not, ◌||◌, eqb, ltb, List, [], ◌∷◌, length, sym, refl, ap, ◌∙◌, arith, eq-eqb, ne_eqb, eqb-true, le-leb}
+use Rattle.std.specs.Prelude.{Result, Ok, Err}
 use borrow.Author.Tests.{not-false}
-use types.Run.{OneOf, miss}
-use denote.Enum.Declared.{tag_of}
 use Rattle.instructions.specs.State.{masked}
 use Rattle.memory.specs.Access.{accessible}
 use Rattle.memory.specs.Lengths.{Test, first, length_tests, refused_length, test}
@@ -16,37 +15,26 @@ use Rattle.machine.specs.Step.{halted, step}
 use Rattle.machine.specs.declared.Answer.{Answer}
 use Rattle.machine.specs.declared.Machine.{Machine}
 use Rattle.machine.specs.declared.Refusal.{Refusal}
-use Rattle.machine.specs.declared.Refusal.TheVariants.{Accepted, Ragged, Size, Status}
-use Rattle.machine.specs.contracts.Refusal.{the_type}
+use Rattle.machine.specs.declared.Refusal.TheVariants.{Ragged, Size, Status}
+use Rattle.machine.specs.declared.Refused.{Refused}
 
--- The refusals, by their places in the enum.
-abbrev refusals : List ℕ
-refusals = 1 ∷ 2 ∷ 3 ∷ []
-
-abbrev Refuses : Refusal → Type 0
-Refuses why = OneOf refusals (tag_of the_type why)
-
-refuses : (why : Refusal) → Refuses why → refusal_number why ≡ 0 → ⊥
-refuses Accepted h e = absurd (miss refusals 0 tt h)
-refuses Ragged h e = omega arith
-refuses Size h e = omega arith
-refuses Status h e = omega arith
-
-pub none : (why : Refusal) {number : ℕ} → refusal_number why ≡ number → why ≡ Accepted → number ≡ 0
-none why e told = sym e ∙ ap refusal_number told
+-- No refusal has the number 0.
+pub refuses : (why : Refusal) → refusal_number why ≡ 0 → ⊥
+refuses Ragged e = omega arith
+refuses Size e = omega arith
+refuses Status e = omega arith
 
 turned_away :
-    (why : Refusal) (done : Ran) (m : Machine) (memory : List ℕ) → Refuses why →
-    called (record { refusal = why; machine = m; steps = 0 }) memory ≡ calling (refusal_number why) done (over m memory)
-turned_away Accepted done m memory h = absurd (miss refusals 0 tt h)
-turned_away Ragged done m memory h = refl
-turned_away Size done m memory h = refl
-turned_away Status done m memory h = refl
+    (why : Refusal) (done : Ran) (m : Machine) (memory : List ℕ) →
+    called (Err (record { refusal = why; machine = m })) memory ≡ calling (refusal_number why) done (over m memory)
+turned_away Ragged done m memory = refl
+turned_away Size done m memory = refl
+turned_away Status done m memory = refl
 
 pub call_refused :
-    (why : Refusal) {number : ℕ} (done : Ran) (m : Machine) (memory : List ℕ) → Refuses why → refusal_number why ≡ number →
-    called (record { refusal = why; machine = m; steps = 0 }) memory ≡ calling number done (over m memory)
-call_refused why done m memory h e = rw (sym e) (turned_away why done m memory h)
+    (why : Refusal) {number : ℕ} (done : Ran) (m : Machine) (memory : List ℕ) → refusal_number why ≡ number →
+    called (Err (record { refusal = why; machine = m })) memory ≡ calling number done (over m memory)
+call_refused why done m memory e = rw (sym e) (turned_away why done m memory)
 
 module _ (m : Machine) (memory : List ℕ) where
   abbrev unmasked : Bool
@@ -56,8 +44,8 @@ module _ (m : Machine) (memory : List ℕ) where
   status = test 3 unmasked ∷ []
 
   pub length_refused :
-      (why : Refusal) → Refuses why → refusal_number why ≡ refused_length (length memory) → refusal_number why ≡ refused m memory
-  length_refused why h e = e ∙ sym (same_before (length_tests (length memory)) status (λ none. refuses why h (e ∙ none)))
+      (why : Refusal) → refusal_number why ≡ refused_length (length memory) → refusal_number why ≡ refused m memory
+  length_refused why e = e ∙ sym (same_before (length_tests (length memory)) status (λ none. refuses why (e ∙ none)))
 
   status_left : refused_length (length memory) ≡ 0 → first status ≡ refused m memory
   status_left e = go (not (eqb (length memory % 4) 0)) (ltb (length memory) 1024 || ltb 16777216 (length memory)) e
@@ -117,41 +105,51 @@ step_call_is_a_run_call_of_1 m memory = rw (step_is_a_run_of_1 (over m memory))
 
 -- Any two results that a promise allows coincide: what a call comes to tells the answer and the memory.
 refusal_of : ℕ → Refusal
-refusal_of number =
-    cond (eqb number (refusal_number Accepted)) Accepted
-    (cond (eqb number (refusal_number Ragged)) Ragged (cond (eqb number (refusal_number Size)) Size Status))
+refusal_of number = cond (eqb number (refusal_number Ragged)) Ragged (cond (eqb number (refusal_number Size)) Size Status)
 
 refusal_told : (why : Refusal) → refusal_of (refusal_number why) ≡ why
 unfolding refusal_of
-refusal_told Accepted = refl
 refusal_told Ragged = refl
 refusal_told Size = refl
 refusal_told Status = refl
 
-answer_of : Called → Answer
-answer_of c = record { refusal = refusal_of c.refusal; machine = machine_of c.ran.after; steps = c.ran.steps }
+answer_of : Called → Result Answer Refused
+answer_of c =
+    let m = machine_of c.ran.after in
+    cond (eqb c.refusal 0) (Ok (record { machine = m; steps = c.ran.steps }))
+    (Err (record { refusal = refusal_of c.refusal; machine = m }))
 
-answer_told : (a : Answer) (memory : List ℕ) → answer_of (called a memory) ≡ a
+answer_told : (a : Result Answer Refused) (memory : List ℕ) → answer_of (called a memory) ≡ a
 unfolding answer_of
-answer_told a memory = ap (λ why. record { refusal = why; machine = a.machine; steps = a.steps }) (refusal_told a.refusal)
+answer_told (Ok a) memory = refl
+answer_told (Err why) memory =
+    rw (ne_eqb _ _ (refuses why.refusal)) (ap (λ r. Err (record { refusal = r; machine = why.machine })) (refusal_told why.refusal))
+
+memory_of : Called → List ℕ
+memory_of c = c.ran.after.state.memory
+
+memory_told : (a : Result Answer Refused) (memory : List ℕ) → memory_of (called a memory) ≡ memory
+unfolding memory_of
+memory_told (Ok a) memory = refl
+memory_told (Err why) memory = refl
 
 one_result :
-    {promised : Called} (a b : Answer) (after other : List ℕ) → called a after ≡ promised → called b other ≡ promised →
-    (a ≡ b) × (after ≡ other)
+    {promised : Called} (a b : Result Answer Refused) (after other : List ℕ) → called a after ≡ promised →
+    called b other ≡ promised → (a ≡ b) × (after ≡ other)
 one_result a b after other p q = (
   sym (answer_told a after) ∙ ap answer_of (p ∙ sym q) ∙ answer_told b other,
-  ap (λ (c : Called). c.ran.after.state.memory) (p ∙ sym q),
+  sym (memory_told a after) ∙ ap memory_of (p ∙ sym q) ∙ memory_told b other,
 )
 
-pub reset_determined : (memory : List ℕ) (a b : Answer) → Resets memory a → Resets memory b → a ≡ b
+pub reset_determined : (memory : List ℕ) (a b : Result Answer Refused) → Resets memory a → Resets memory b → a ≡ b
 reset_determined memory a b p q = (one_result a b memory memory p q).0
 
 pub step_determined :
-    (m : Machine) (memory : List ℕ) (a b : Answer) (after other : List ℕ) → Steps m memory a after → Steps m memory b other →
-    (a ≡ b) × (after ≡ other)
+    (m : Machine) (memory : List ℕ) (a b : Result Answer Refused) (after other : List ℕ) → Steps m memory a after →
+    Steps m memory b other → (a ≡ b) × (after ≡ other)
 step_determined m memory = one_result
 
 pub run_determined :
-    (budget : ℕ) (m : Machine) (memory : List ℕ) (a b : Answer) (after other : List ℕ) → Runs budget m memory a after →
+    (budget : ℕ) (m : Machine) (memory : List ℕ) (a b : Result Answer Refused) (after other : List ℕ) → Runs budget m memory a after →
     Runs budget m memory b other → (a ≡ b) × (after ≡ other)
 run_determined budget m memory = one_result

@@ -1,11 +1,10 @@
 -- The ranges of the machine's record (document 01, "State") are kept by every step and every run, and so is the memory's length: what an
 -- instruction leaves is in range, an address from which the PC or a target comes is below 2^32, and a push writes bytes.
 -- Assumes nothing.
+use Rattle.std.specs.Prelude.{None, Option, Some}
 use Rattle.std.proofs.Common.{◌≡◌, ℕ, zero, suc, ◌^◌, ◌<◌, Bool, true, false, cond, eqb, List, length, replicate, refl, ◌∙◌, arith}
 use Rattle.memory.specs.Access.{loaded, written}
 use Rattle.memory.specs.Lengths.{refused_length}
-use Rattle.memory.specs.declared.Loaded.{Loaded}
-use Rattle.memory.specs.declared.Loaded.TheVariants as loads
 use Rattle.memory.proofs.Bytes.{Bytes, length_written, value_small, written_bytes}
 use Rattle.decoder.specs.Code.{meaning}
 use Rattle.decoder.proofs.Table.{fields_within}
@@ -89,11 +88,11 @@ settles (Trap number) mode waiting r q below = enters r number _
 settles Fault mode waiting r q below = enters r address_error _
 settles Illegal mode waiting r q below = enters r (illegal_number mode) _
 
-fetches : (mode : Mode) (l : Loaded) {s : State} → ModeInRange mode → StateInRange s → InRange (fetched mode l s)
-fetches mode (loads.Value w) {s} waiting r =
+fetches : (mode : Mode) (l : Option ℕ) {s : State} → ModeInRange mode → StateInRange s → InRange (fetched mode l s)
+fetches mode (Some w) {s} waiting r =
     let e = attempt_in_range (in_slot mode) (meaning w) (pc_of mode s) s (fields_within w) (low32_below _) r in
     settles (attempted (in_slot mode) (meaning w) (pc_of mode s) s).flow mode waiting r e.after e.target
-fetches mode loads.Fault waiting r = enters r address_error _
+fetches mode None waiting r = enters r address_error _
 
 pub step_keeps : (x : Situation) → InRange x → InRange (step x)
 unfolding step
@@ -199,11 +198,11 @@ settle_sized (Trap number) mode before after same = entry_sized number (next_pc 
 settle_sized Fault mode before after same = entry_sized address_error (next_pc mode before) before
 settle_sized Illegal mode before after same = entry_sized (illegal_number mode) (saved_pc mode before.control.pc) before
 
-fetch_sized : (mode : Mode) (l : Loaded) (s : State) → Sized (length s.memory) (fetched mode l s)
-fetch_sized mode (loads.Value w) s =
+fetch_sized : (mode : Mode) (l : Option ℕ) (s : State) → Sized (length s.memory) (fetched mode l s)
+fetch_sized mode (Some w) s =
     settle_sized (attempted (in_slot mode) (meaning w) (pc_of mode s) s).flow mode s (attempted (in_slot mode) (meaning w) (pc_of mode s) s).after
     (attempt_keeps_length (in_slot mode) (meaning w) (pc_of mode s) s)
-fetch_sized mode loads.Fault s = entry_sized address_error (saved_pc mode s.control.pc) s
+fetch_sized mode None s = entry_sized address_error (saved_pc mode s.control.pc) s
 
 pub step_keeps_length : (x : Situation) → length (step x).state.memory ≡ length x.state.memory
 unfolding step

@@ -1,9 +1,8 @@
 -- No step stops the machine for reason 3: in a slot no instruction is a delayed branch, since one that rewrites the PC is illegal there.
 -- Assumes nothing.
+use Rattle.std.specs.Prelude.{None, Option, Some}
 use Rattle.std.proofs.Common.{◌≡◌, ℕ, refl}
 use Rattle.memory.specs.Access.{loaded}
-use Rattle.memory.specs.declared.Loaded.{Loaded}
-use Rattle.memory.specs.declared.Loaded.TheVariants as loads
 use Rattle.decoder.specs.Code.{meaning}
 use Rattle.decoder.specs.declared.meaning.Meaning.{Meaning}
 use Rattle.instructions.specs.Execute.{attempted}
@@ -68,11 +67,11 @@ straight_in_slot Running x s = tt
 straight_in_slot Asleep x s = tt
 straight_in_slot (Stopped reason) x s = tt
 
-fetches : (mode : Mode) (l : Loaded) (s : State) → Other mode → Elsewhere (fetched mode l s)
-fetches mode (loads.Value w) s other =
+fetches : (mode : Mode) (l : Option ℕ) (s : State) → Other mode → Elsewhere (fetched mode l s)
+fetches mode (Some w) s other =
     settles (attempted (in_slot mode) (meaning w) (pc_of mode s) s).flow mode s (attempted (in_slot mode) (meaning w) (pc_of mode s) s).after other
     (straight_in_slot mode (meaning w) s)
-fetches mode loads.Fault s other = enters address_error (saved_pc mode s.control.pc) s
+fetches mode None s other = enters address_error (saved_pc mode s.control.pc) s
 
 steps : (x : Situation) → Elsewhere x → Elsewhere (step x)
 unfolding step

@@ -1,8 +1,8 @@
 -- A step settles by the state that the instruction left, since what raises an exception leaves all as it was.
 -- Assumes nothing.
+use Rattle.std.specs.Prelude.{None, Some}
 use Rattle.std.proofs.Common.{◌≡◌, ℕ, Bool, true, false, sym, refl, ap, arith}
 use Rattle.memory.specs.Access.{loaded}
-use Rattle.memory.specs.declared.Loaded.TheVariants as loads
 use Rattle.decoder.specs.Code.{meaning}
 use Rattle.decoder.specs.declared.meaning.Meaning.{Meaning}
 use Rattle.instructions.specs.Execute.{attempted}
@@ -79,13 +79,13 @@ admits_flow mode x s flow after runs e =
 
 pub step_settles :
     (mode : Mode) (s : State) (w : ℕ) (flow : Flow) (after : State) → asleep_or_stopped mode ≡ false →
-    loaded 2 s.memory s.control.pc ≡ loads.Value w → attempted (in_slot mode) (meaning w) (pc_of mode s) s ≡ leads flow after →
+    loaded 2 s.memory s.control.pc ≡ Some w → attempted (in_slot mode) (meaning w) (pc_of mode s) s ≡ leads flow after →
     step (at mode s) ≡ settle flow mode after after
 unfolding step
 step_settles mode s w flow after runs word e = rw (runs, word, settles_by_what_is_left mode (meaning w) s runs, e)
 
 pub fetch_fails :
-    (mode : Mode) (s : State) → asleep_or_stopped mode ≡ false → loaded 2 s.memory s.control.pc ≡ loads.Fault →
+    (mode : Mode) (s : State) → asleep_or_stopped mode ≡ false → loaded 2 s.memory s.control.pc ≡ None →
     step (at mode s) ≡ raise address_error (saved_pc mode s.control.pc) s
 unfolding step
 fetch_fails mode s runs fault = rw (runs, fault)

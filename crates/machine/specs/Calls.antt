@@ -1,5 +1,5 @@
 -- What a call promises: document 01, "Refusals of a call", "Reset" and "Run".
-use Rattle.std.specs.Prelude.{◌≡◌, ℕ, cond, not, List, [], ◌∷◌, ◌++◌, length, replicate, ◌==◌, slice_set}
+use Rattle.std.specs.Prelude.{◌≡◌, ℕ, if◌then◌else◌, not, List, [], ◌∷◌, ◌++◌, length, replicate, ◌==◌, slice_set, Result, Ok, Err, ⊤}
 use Rattle.memory.specs.Access.{value_at}
 use Rattle.memory.specs.Lengths.{Test, first, length_tests, test}
 use Rattle.instructions.specs.State.{control, masked, with_pc, with_sr, with_vbr}
@@ -7,16 +7,20 @@ use Rattle.machine.specs.declared.Answer.{Answer}
 use Rattle.machine.specs.declared.Machine.{Machine}
 use Rattle.machine.specs.declared.Mode.TheVariants.{Running}
 use Rattle.machine.specs.declared.Refusal.{Refusal}
-use Rattle.machine.specs.declared.Refusal.TheVariants.{Accepted, Ragged, Size, Status}
+use Rattle.machine.specs.declared.Refusal.TheVariants.{Ragged, Size, Status}
+use Rattle.machine.specs.declared.Refused.{Refused}
 use Rattle.machine.specs.Situation.{Situation, over, stopped}
 use Rattle.machine.specs.Run.{Ran, run, stepped, still}
 
--- Document 01's number of a refusal; 0 for none.
+-- Document 01's number of a refusal; and of what a check answers, 0 for none.
 abbrev pub refusal_number : Refusal → ℕ
-refusal_number Accepted = 0
 refusal_number Ragged = 1
 refusal_number Size = 2
 refusal_number Status = 3
+
+abbrev pub check_number : Result ⊤ Refusal → ℕ
+check_number (Ok done) = 0
+check_number (Err why) = refusal_number why
 
 -- The number of the refusal of a call with this machine and memory; 0 for none. 1 and 2 are the length's; 3: "else, SR given has a bit
 -- outside H'3F3 (step and run only)"
@@ -30,17 +34,14 @@ pub record Called : Type 0 where
   pub refusal : ℕ
   pub ran : Ran
 
--- An answer, with the memory that is left.
-abbrev pub called : Answer → List ℕ → Called
-called answer memory =
-    record {
-      refusal = refusal_number answer.refusal;
-      ran = record { after = over answer.machine memory; steps = answer.steps };
-    }
+-- What a call answers, with the memory that is left. A refused one has taken no step.
+abbrev pub called : Result Answer Refused → List ℕ → Called
+called (Ok answer) memory = record { refusal = 0; ran = record { after = over answer.machine memory; steps = answer.steps } }
+called (Err refused) memory = record { refusal = refusal_number refused.refusal; ran = still (over refused.machine memory) }
 
 -- A call that is handed x, by the number of its refusal: 0 and it is done, any other and "state as given, memory untouched, 0 steps".
 abbrev pub calling : ℕ → Ran → Situation → Called
-calling number done x = record { refusal = number; ran = cond (number == 0) done (still x) }
+calling number done x = record { refusal = number; ran = if number == 0 then done else still x }
 
 abbrev pub run_call : ℕ → Machine → List ℕ → Called
 run_call budget m memory = calling (refused m memory) (run budget (over m memory)) (over m memory)
@@ -73,11 +74,11 @@ abbrev pub reset_call : List ℕ → Called
 reset_call memory = reset_by (first (reset_tests memory)) memory
 
 -- The promises of the public operations: document 01's number of the refusal, and machine, steps and memory those of the definition.
-abbrev pub Resets : List ℕ → Answer → Type 0
+abbrev pub Resets : List ℕ → Result Answer Refused → Type 0
 Resets memory answer = called answer memory ≡ reset_call memory
 
-abbrev pub Steps : Machine → List ℕ → Answer → List ℕ → Type 0
+abbrev pub Steps : Machine → List ℕ → Result Answer Refused → List ℕ → Type 0
 Steps m memory answer after = called answer after ≡ step_call m memory
 
-abbrev pub Runs : ℕ → Machine → List ℕ → Answer → List ℕ → Type 0
+abbrev pub Runs : ℕ → Machine → List ℕ → Result Answer Refused → List ℕ → Type 0
 Runs budget m memory answer after = called answer after ≡ run_call budget m memory

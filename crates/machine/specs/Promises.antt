@@ -1,6 +1,6 @@
 -- What the functions below the calls promise: the definition's entry, settling and step, over the registers that they are lent, and its
 -- run.
-use Rattle.std.specs.Prelude.{◌≡◌, ℕ, List}
+use Rattle.std.specs.Prelude.{◌≡◌, ℕ, List, Ok}
 use Rattle.instructions.specs.Promises.{state}
 use Rattle.instructions.specs.State.{control}
 use Rattle.instructions.specs.declared.control.Flow.{Flow}
@@ -51,4 +51,4 @@ Advances mode pc sr gbr vbr pr mach macl r memory mode' pc' sr' gbr' vbr' pr' ma
 
 -- A run that is not refused.
 abbrev pub RunsAccepted : ℕ → Machine → List ℕ → Answer → List ℕ → Type 0
-RunsAccepted budget m memory answer after = called answer after ≡ record { refusal = 0; ran = run budget (over m memory) }
+RunsAccepted budget m memory answer after = called (Ok answer) after ≡ record { refusal = 0; ran = run budget (over m memory) }

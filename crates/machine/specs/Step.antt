@@ -1,10 +1,8 @@
 -- One step: document 01, "One step".
-use Rattle.std.specs.Prelude.{ℕ, ◌+◌, Bool, true, false, cond}
+use Rattle.std.specs.Prelude.{ℕ, ◌+◌, Bool, true, false, cond, None, Option, Some}
 use Rattle.numbers.specs.Numbers.{low32}
 use Rattle.arithmetic.specs.Addresses.{following}
 use Rattle.memory.specs.Access.{loaded}
-use Rattle.memory.specs.declared.Loaded.{Loaded}
-use Rattle.memory.specs.declared.Loaded.TheVariants as loads
 use Rattle.decoder.specs.Code.{meaning}
 use Rattle.decoder.specs.declared.meaning.Meaning.{Meaning}
 use Rattle.instructions.specs.State.{State, changed, with_pc}
@@ -65,9 +63,9 @@ abbrev pub decoded : Mode → Meaning → State → Situation
 decoded mode x s = performed mode s (attempted (in_slot mode) x (pc_of mode s) s)
 
 -- Item 2, "Fetch the word at PC. PC odd or the word outside: address error."
-abbrev pub fetched : Mode → Loaded → State → Situation
-fetched mode (loads.Value w) s = decoded mode (meaning w) s
-fetched mode loads.Fault s = raise address_error (saved_pc mode s.control.pc) s
+abbrev pub fetched : Mode → Option ℕ → State → Situation
+fetched mode (Some w) s = decoded mode (meaning w) s
+fetched mode None s = raise address_error (saved_pc mode s.control.pc) s
 
 -- Item 1, "Asleep or stopped: nothing happens and no step is counted."
 abbrev pub asleep_or_stopped : Mode → Bool

@@ -3,8 +3,9 @@ ghost use Rattle.std.specs.Prelude.{◌≡◌, length};
 ghost use Rattle.memory.specs.Lengths.{refused_length};
 ghost use Rattle.machine.specs.Calls as Calls;
 
-use crate::{Answer, Machine, Mode, Refusal, Stop, exceptions, run_loop};
+use crate::{Answer, Machine, Mode, Refusal, Refused, Stop, run_loop};
 use instructions::Control;
+use memory::{Access, Long};
 
 impl Machine {
     // Registers zero, SR H'F0, stopped for reason 2: what a refused reset returns.
@@ -28,22 +29,19 @@ impl Machine {
     }
 }
 
-pub fn reset(memory: &[u8]) -> Answer
+pub fn reset(memory: &[u8]) -> Result<Answer, Refused>
     ensures { Calls.Resets memory.now result }
 {
     let blank = Machine::blank();
-    let refusal = refused_memory(memory);
-    match refusal {
-        Refusal::Accepted => Answer {
-            refusal,
+    match check_memory(memory) {
+        Ok(()) => Ok(Answer {
             machine: start(blank, memory),
             steps: 0,
-        },
-        _ => Answer {
+        }),
+        Err(refusal) => Err(Refused {
             refusal,
             machine: blank,
-            steps: 0,
-        },
+        }),
     }
 }
 
@@ -53,9 +51,9 @@ fn start(machine: Machine, memory: &[u8]) -> Machine
     ensures { result ≡ Calls.start machine memory.now }
 {
     let mut r = machine.r;
-    r[15] = exceptions::long_at(memory, 4);
+    r[15] = Long::load(memory, 4).unwrap();
     let mut control = machine.control;
-    control.pc = exceptions::long_at(memory, 0);
+    control.pc = Long::load(memory, 0).unwrap();
     control.sr = 0xf0;
     control.vbr = 0;
     Machine {
@@ -65,48 +63,35 @@ fn start(machine: Machine, memory: &[u8]) -> Machine
     }
 }
 
-pub fn step(machine: Machine, memory: &mut [u8]) -> Answer
+pub fn step(machine: Machine, memory: &mut [u8]) -> Result<Answer, Refused>
     ensures { Calls.Steps machine memory.old result memory.new }
 {
     run(machine, memory, 1)
 }
 
-pub fn run(machine: Machine, memory: &mut [u8], budget: u32) -> Answer
+pub fn run(machine: Machine, memory: &mut [u8], budget: u32) -> Result<Answer, Refused>
     ensures { Calls.Runs budget machine memory.old result memory.new }
 {
-    let refusal = refused(machine, memory);
-    match refusal {
-        Refusal::Accepted => run_loop::run_accepted(machine, memory, budget),
-        _ => Answer {
-            refusal,
-            machine,
-            steps: 0,
-        },
+    match check(machine, memory) {
+        Ok(()) => Ok(run_loop::run_accepted(machine, memory, budget)),
+        Err(refusal) => Err(Refused { refusal, machine }),
     }
 }
 
-fn refused(machine: Machine, memory: &[u8]) -> Refusal
-    ensures { Calls.refusal_number result ≡ Calls.refused machine memory.now }
+fn check(machine: Machine, memory: &[u8]) -> Result<(), Refusal>
+    ensures { Calls.check_number result ≡ Calls.refused machine memory.now }
 {
-    let why = refused_memory(memory);
+    check_memory(memory)?;
     let sr = machine.control.sr;
-    match why {
-        Refusal::Accepted => {
-            if sr & Control::SR_MASK == sr {
-                return Refusal::Accepted;
-            }
-            Refusal::Status
-        }
-        _ => why,
+    if sr & Control::SR_MASK != sr {
+        return Err(Refusal::Status);
     }
+    Ok(())
 }
 
-fn refused_memory(memory: &[u8]) -> Refusal
-    ensures { Calls.refusal_number result ≡ refused_length (length memory.now) }
+// 1 and 2, which are the length's.
+fn check_memory(memory: &[u8]) -> Result<(), Refusal>
+    ensures { Calls.check_number result ≡ refused_length (length memory.now) }
 {
-    match memory::refused_length(memory.len()) {
-        0 => Refusal::Accepted,
-        1 => Refusal::Ragged,
-        _ => Refusal::Size,
-    }
+    Ok(memory::check_length(memory.len())?)
 }

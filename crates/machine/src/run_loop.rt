@@ -1,9 +1,8 @@
 // A run that is not refused (document 01, "Run"): the hot path.
 ghost use Rattle.std.specs.Prelude.{◌≡◌};
 ghost use Rattle.machine.specs.Promises.{RunsAccepted};
-ghost use Rattle.machine.specs.Step.{asleep_or_stopped};
 
-use crate::{Answer, Machine, Mode, Refusal, steps};
+use crate::{Answer, Machine, steps};
 use instructions::Control;
 
 // The registers are locals, lent to each step one by one: so the compiler keeps them where it likes.
@@ -20,15 +19,12 @@ pub fn run_accepted(machine: Machine, memory: &mut [u8], budget: u32) -> Answer
     let mut macl = machine.control.macl;
     let mut mode = machine.mode;
     let mut taken = 0;
-    while taken < budget {
-        if halted(mode) {
-            break;
-        }
+    while taken < budget && !mode.is_halted() {
         mode = steps::advance(
             mode, &mut pc, &mut sr, &mut gbr, &mut vbr, &mut pr, &mut mach, &mut macl, &mut r,
             memory,
         );
-        taken = taken + 1;
+        taken += 1;
     }
     let control = Control {
         pc,
@@ -40,19 +36,7 @@ pub fn run_accepted(machine: Machine, memory: &mut [u8], budget: u32) -> Answer
         macl,
     };
     Answer {
-        refusal: Refusal::Accepted,
         machine: Machine { r, control, mode },
         steps: taken,
-    }
-}
-
-fn halted(mode: Mode) -> bool
-    ensures { result ≡ asleep_or_stopped mode }
-{
-    match mode {
-        Mode::Running => false,
-        Mode::Slot(_) => false,
-        Mode::Asleep => true,
-        Mode::Stopped(_) => true,
     }
 }

@@ -1,12 +1,11 @@
 // One step (document 01, "One step").
 ghost use Rattle.std.specs.Prelude.{◌≡◌, false};
-ghost use Rattle.machine.specs.Exceptions as Exceptions;
 ghost use Rattle.machine.specs.Step as Step;
 ghost use Rattle.machine.specs.Promises.{Admits, Advances, Settles};
 
 use crate::{Mode, exceptions};
 use instructions::Flow;
-use memory::{Loaded, Word};
+use memory::{Access, Word};
 use std::num::wrapping_add_u32;
 
 // Of a machine that runs, in a slot or not.
@@ -26,20 +25,25 @@ pub fn advance(
     ensures { Advances mode pc.old sr.old gbr.old vbr.old pr.old mach.old macl.old r.old memory.old result pc.new sr.new gbr.new vbr.new pr.new mach.new macl.new r.new memory.new }
 {
     let at = *pc;
-    match Word::load(memory, at) {
-        Loaded::Value(word) => {
-            let meaning = decoder::decode(word as u16);
-            let slot = in_slot(mode);
-            let flow = dispatch::attempt(
-                meaning, slot, at, sr, gbr, vbr, pr, mach, macl, r, memory,
-            );
-            settle(flow, mode, pc, *sr, *vbr, r, memory)
-        }
-        Loaded::Fault => {
-            let saved = saved_pc(mode, at);
-            exceptions::enter(exceptions::ADDRESS_ERROR, saved, pc, *sr, *vbr, r, memory)
-        }
-    }
+    let Some(word) = Word::load(memory, at) else {
+        let saved = mode.target_or(at);
+        return exceptions::enter(exceptions::ADDRESS_ERROR, saved, pc, *sr, *vbr, r, memory);
+    };
+    let meaning = decoder::decode(word as u16);
+    let flow = dispatch::attempt(
+        meaning,
+        mode.is_slot(),
+        at,
+        sr,
+        gbr,
+        vbr,
+        pr,
+        mach,
+        macl,
+        r,
+        memory,
+    );
+    settle(flow, mode, pc, *sr, *vbr, r, memory)
 }
 
 fn settle(
@@ -55,7 +59,7 @@ fn settle(
     ensures { Settles flow mode pc.old sr vbr r.old memory.old result pc.new r.new memory.new }
 {
     let at = *pc;
-    let next = saved_pc(mode, wrapping_add_u32(at, 2));
+    let next = mode.target_or(wrapping_add_u32(at, 2));
     match flow {
         Flow::Next => {
             *pc = next;
@@ -77,38 +81,16 @@ fn settle(
         Flow::Fault => exceptions::enter(exceptions::ADDRESS_ERROR, next, pc, sr, vbr, r, memory),
         Flow::Illegal => {
             let number = illegal_number(mode);
-            let saved = saved_pc(mode, at);
+            let saved = mode.target_or(at);
             exceptions::enter(number, saved, pc, sr, vbr, r, memory)
         }
-    }
-}
-
-fn saved_pc(mode: Mode, other: u32) -> u32
-    ensures { result ≡ Exceptions.saved_pc mode other }
-{
-    match mode {
-        Mode::Slot(waiting) => waiting,
-        Mode::Running => other,
-        Mode::Asleep => other,
-        Mode::Stopped(_) => other,
-    }
-}
-
-fn in_slot(mode: Mode) -> bool
-    ensures { result ≡ Step.in_slot mode }
-{
-    match mode {
-        Mode::Slot(_) => true,
-        Mode::Running => false,
-        Mode::Asleep => false,
-        Mode::Stopped(_) => false,
     }
 }
 
 fn illegal_number(mode: Mode) -> u8
     ensures { result ≡ Step.illegal_number mode }
 {
-    if in_slot(mode) {
+    if mode.is_slot() {
         return exceptions::ILLEGAL_SLOT;
     }
     exceptions::GENERAL_ILLEGAL

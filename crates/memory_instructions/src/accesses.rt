@@ -7,16 +7,16 @@ ghost use Rattle.instructions.specs.State.{with_gbr};
 use arithmetic::transfers;
 use decoder::{Address, Size};
 use instructions::Control;
-use memory::{Loaded, Stored};
+use memory::{Access, Byte, Fault, Long, Word};
 use std::num::wrapping_add_u32;
 
 pub fn bytes(size: Size) -> u32
     ensures { result ≡ Promises.bytes size }
 {
     match size {
-        Size::Byte => 1,
-        Size::Word => 2,
-        Size::Long => 4,
+        Size::Byte => Byte::BYTES,
+        Size::Word => Word::BYTES,
+        Size::Long => Long::BYTES,
     }
 }
 
@@ -34,36 +34,26 @@ pub fn effective(size: Size, address: Address, gbr: u32, r: &[u32; 16]) -> u32
 fn scaled(size: Size, d: u8) -> u32
     ensures { result ≡ d * Promises.bytes size }
 {
-    match size {
-        Size::Byte => d as u32,
-        Size::Word => d as u32 * 2,
-        Size::Long => d as u32 * 4,
-    }
+    d as u32 * bytes(size)
 }
 
 // What a register takes from memory.
-pub fn load(size: Size, memory: &[u8], at: u32) -> Loaded
+pub fn load(size: Size, memory: &[u8], at: u32) -> Option<u32>
     ensures { result ≡ Promises.extended_load size (loaded (Promises.bytes size) memory.now at) }
 {
     match size {
-        Size::Byte => match memory::Byte::load(memory, at) {
-            Loaded::Value(v) => Loaded::Value(transfers::exts_b(v)),
-            Loaded::Fault => Loaded::Fault,
-        },
-        Size::Word => match memory::Word::load(memory, at) {
-            Loaded::Value(v) => Loaded::Value(transfers::exts_w(v)),
-            Loaded::Fault => Loaded::Fault,
-        },
-        Size::Long => memory::Long::load(memory, at),
+        Size::Byte => Byte::load(memory, at).map(transfers::exts_b),
+        Size::Word => Word::load(memory, at).map(transfers::exts_w),
+        Size::Long => Long::load(memory, at),
     }
 }
 
-pub fn store(size: Size, memory: &mut [u8], at: u32, value: u32) -> Stored
+pub fn store(size: Size, memory: &mut [u8], at: u32, value: u32) -> Result<(), Fault>
     ensures { Stores (Promises.bytes size) memory.old at value result memory.new }
 {
     match size {
-        Size::Byte => memory::Byte::store(memory, at, value),
-        Size::Word => memory::Word::store(memory, at, value),
-        Size::Long => memory::Long::store(memory, at, value),
+        Size::Byte => Byte::store(memory, at, value),
+        Size::Word => Word::store(memory, at, value),
+        Size::Long => Long::store(memory, at, value),
     }
 }

@@ -7,7 +7,7 @@ ghost use Rattle.instructions.specs.State.{with_mac, with_sr};
 
 use decoder::{Meaning, MultiplyAdd};
 use instructions::{Control, Flow};
-use memory::{Loaded, Long, Word};
+use memory::{Access, Long, Word};
 use multiply::Mac;
 use std::num::wrapping_add_u32;
 
@@ -28,37 +28,31 @@ pub fn multiply_add(
     let into = (n % 16) as usize;
     let k = operand_bytes(operation);
     let first = r[into];
-    match operand(operation, memory, first) {
-        Loaded::Value(b) => {
-            r[into] = wrapping_add_u32(first, k);
-            match operand(operation, memory, r[from]) {
-                Loaded::Value(a) => {
-                    r[from] = wrapping_add_u32(r[from], k);
-                    let sum = accumulated(operation, *mach, *macl, sr / 2 % 2, a, b);
-                    *mach = sum.mach;
-                    *macl = sum.macl;
-                    Flow::Next
-                }
-                Loaded::Fault => {
-                    r[into] = first;
-                    Flow::Fault
-                }
-            }
-        }
-        Loaded::Fault => Flow::Fault,
-    }
+    let Some(b) = operand(operation, memory, first) else {
+        return Flow::Fault;
+    };
+    r[into] = wrapping_add_u32(first, k);
+    let Some(a) = operand(operation, memory, r[from]) else {
+        r[into] = first;
+        return Flow::Fault;
+    };
+    r[from] = wrapping_add_u32(r[from], k);
+    let sum = accumulated(operation, *mach, *macl, sr / 2 % 2, a, b);
+    *mach = sum.mach;
+    *macl = sum.macl;
+    Flow::Next
 }
 
 fn operand_bytes(operation: MultiplyAdd) -> u32
     ensures { result ≡ Promises.operand_bytes operation }
 {
     match operation {
-        MultiplyAdd::MacL => 4,
-        MultiplyAdd::MacW => 2,
+        MultiplyAdd::MacL => Long::BYTES,
+        MultiplyAdd::MacW => Word::BYTES,
     }
 }
 
-fn operand(operation: MultiplyAdd, memory: &[u8], at: u32) -> Loaded
+fn operand(operation: MultiplyAdd, memory: &[u8], at: u32) -> Option<u32>
     ensures { result ≡ loaded (Promises.operand_bytes operation) memory.now at }
 {
     match operation {

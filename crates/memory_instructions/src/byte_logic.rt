@@ -5,7 +5,7 @@ ghost use Rattle.instructions.specs.State.{with_gbr, with_sr};
 use arithmetic::logic;
 use decoder::{ImmediateByte, Meaning};
 use instructions::{Control, Flow, with_t};
-use memory::{Byte, Loaded, Stored};
+use memory::{Access, Byte};
 use std::num::wrapping_add_u32;
 
 #[tactic(auto, unfolding(instructions::specs::Execute::execute))]
@@ -20,17 +20,17 @@ pub fn immediate_byte(
     ensures { (c : Control) → Performs (Meaning.ImmediateByte operation i) (with_sr sr.old (with_gbr gbr c)) r.now memory.old result (with_sr sr.new (with_gbr gbr c)) r.now memory.new }
 {
     let at = wrapping_add_u32(gbr, r[0]);
-    match Byte::load(memory, at) {
-        Loaded::Value(v) => match operation {
-            ImmediateByte::AndB => replace(logic::and(i as u32, v), at, memory),
-            ImmediateByte::OrB => replace(logic::or(i as u32, v), at, memory),
-            ImmediateByte::TstB => {
-                *sr = with_t(*sr, logic::tst(i as u32, v));
-                Flow::Next
-            }
-            ImmediateByte::XorB => replace(logic::xor(i as u32, v), at, memory),
-        },
-        Loaded::Fault => Flow::Fault,
+    let Some(v) = Byte::load(memory, at) else {
+        return Flow::Fault;
+    };
+    match operation {
+        ImmediateByte::AndB => replace(logic::and(i as u32, v), at, memory),
+        ImmediateByte::OrB => replace(logic::or(i as u32, v), at, memory),
+        ImmediateByte::TstB => {
+            *sr = with_t(*sr, logic::tst(i as u32, v));
+            Flow::Next
+        }
+        ImmediateByte::XorB => replace(logic::xor(i as u32, v), at, memory),
     }
 }
 
@@ -39,16 +39,14 @@ pub fn tas_b(n: u8, sr: &mut u32, r: &[u32; 16], memory: &mut [u8]) -> Flow
     ensures { OnSr (Meaning.TasB n) sr.old r.now memory.old result sr.new r.now memory.new }
 {
     let at = r[(n % 16) as usize];
-    match Byte::load(memory, at) {
-        Loaded::Value(v) => match Byte::store(memory, at, logic::or(128, v)) {
-            Stored::Done => {
-                *sr = with_t(*sr, (v == 0) as u32);
-                Flow::Next
-            }
-            Stored::Fault => Flow::Fault,
-        },
-        Loaded::Fault => Flow::Fault,
+    let Some(v) = Byte::load(memory, at) else {
+        return Flow::Fault;
+    };
+    if Byte::store(memory, at, logic::or(128, v)).is_err() {
+        return Flow::Fault;
     }
+    *sr = with_t(*sr, (v == 0) as u32);
+    Flow::Next
 }
 
 #[tactic(auto, unfolding(memory::specs::Access::answered, memory::specs::Access::stored_at))]
@@ -56,7 +54,7 @@ fn replace(byte: u32, at: u32, memory: &mut [u8]) -> Flow
     ensures { Replaces byte at memory.old result memory.new }
 {
     match Byte::store(memory, at, byte) {
-        Stored::Done => Flow::Next,
-        Stored::Fault => Flow::Fault,
+        Ok(()) => Flow::Next,
+        Err(_) => Flow::Fault,
     }
 }

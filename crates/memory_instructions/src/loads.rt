@@ -6,19 +6,18 @@ use crate::accesses;
 use arithmetic::{addresses, transfers};
 use decoder::{Address, Meaning, Relative, Size};
 use instructions::{Control, Flow};
-use memory::{Loaded, Long, Word};
+use memory::{Access, Long, Word};
 use std::num::wrapping_add_u32;
 
 pub fn load(size: Size, address: Address, n: u8, gbr: u32, r: &mut [u32; 16], memory: &[u8]) -> Flow
     ensures { (c : Control) → Performs (Meaning.Load size address n) (with_gbr gbr c) r.old memory.now result (with_gbr gbr c) r.new memory.now }
 {
-    match accesses::load(size, memory, accesses::effective(size, address, gbr, r)) {
-        Loaded::Value(v) => {
-            r[(n % 16) as usize] = v;
-            Flow::Next
-        }
-        Loaded::Fault => Flow::Fault,
-    }
+    let at = accesses::effective(size, address, gbr, r);
+    let Some(v) = accesses::load(size, memory, at) else {
+        return Flow::Fault;
+    };
+    r[(n % 16) as usize] = v;
+    Flow::Next
 }
 
 #[tactic(auto, unfolding(instructions::specs::Execute::execute))]
@@ -27,14 +26,12 @@ pub fn load_increment(size: Size, m: u8, n: u8, r: &mut [u32; 16], memory: &[u8]
 {
     let from = (m % 16) as usize;
     let at = r[from];
-    match accesses::load(size, memory, at) {
-        Loaded::Value(v) => {
-            r[from] = wrapping_add_u32(at, accesses::bytes(size));
-            r[(n % 16) as usize] = v;
-            Flow::Next
-        }
-        Loaded::Fault => Flow::Fault,
-    }
+    let Some(v) = accesses::load(size, memory, at) else {
+        return Flow::Fault;
+    };
+    r[from] = wrapping_add_u32(at, accesses::bytes(size));
+    r[(n % 16) as usize] = v;
+    Flow::Next
 }
 
 #[tactic(auto, unfolding(instructions::specs::Execute::execute))]
@@ -49,24 +46,16 @@ pub fn relative(
     ensures { (c : Control) → Performs (Meaning.Relative operation d n) (with_pc pc c) r.old memory.now result (with_pc pc c) r.new memory.now }
 {
     let into = (n % 16) as usize;
-    match operation {
-        Relative::MovW => match Word::load(memory, addresses::relative_word(pc, d)) {
-            Loaded::Value(v) => {
-                r[into] = transfers::exts_w(v);
-                Flow::Next
-            }
-            Loaded::Fault => Flow::Fault,
-        },
-        Relative::MovL => match Long::load(memory, addresses::relative_long(pc, d)) {
-            Loaded::Value(v) => {
-                r[into] = v;
-                Flow::Next
-            }
-            Loaded::Fault => Flow::Fault,
-        },
-        Relative::Mova => {
-            r[into] = addresses::relative_long(pc, d);
-            Flow::Next
+    let given = match operation {
+        Relative::MovW => {
+            Word::load(memory, addresses::relative_word(pc, d)).map(transfers::exts_w)
         }
-    }
+        Relative::MovL => Long::load(memory, addresses::relative_long(pc, d)),
+        Relative::Mova => Some(addresses::relative_long(pc, d)),
+    };
+    let Some(v) = given else {
+        return Flow::Fault;
+    };
+    r[into] = v;
+    Flow::Next
 }

@@ -6,7 +6,6 @@ use crate::accesses;
 use arithmetic::sums;
 use decoder::{Address, Meaning, Size};
 use instructions::{Control, Flow};
-use memory::Stored;
 
 pub fn store(
     size: Size,
@@ -20,8 +19,8 @@ pub fn store(
 {
     let at = accesses::effective(size, address, gbr, r);
     match accesses::store(size, memory, at, r[(m % 16) as usize]) {
-        Stored::Done => Flow::Next,
-        Stored::Fault => Flow::Fault,
+        Ok(()) => Flow::Next,
+        Err(_) => Flow::Fault,
     }
 }
 
@@ -31,11 +30,9 @@ pub fn store_decrement(size: Size, m: u8, n: u8, r: &mut [u32; 16], memory: &mut
 {
     let into = (n % 16) as usize;
     let at = sums::sub(accesses::bytes(size), r[into]);
-    match accesses::store(size, memory, at, r[(m % 16) as usize]) {
-        Stored::Done => {
-            r[into] = at;
-            Flow::Next
-        }
-        Stored::Fault => Flow::Fault,
+    if accesses::store(size, memory, at, r[(m % 16) as usize]).is_err() {
+        return Flow::Fault;
     }
+    r[into] = at;
+    Flow::Next
 }

@@ -5,7 +5,7 @@ ghost use Rattle.instructions.specs.Promises.{Performs};
 use arithmetic::sums;
 use decoder::{ControlRegister, Meaning};
 use instructions::{Control, Flow};
-use memory::{Loaded, Long, Stored};
+use memory::{Access, Long};
 use std::num::wrapping_add_u32;
 
 #[tactic(auto, unfolding(instructions::specs::Execute::execute))]
@@ -34,18 +34,16 @@ pub fn load_control_long(
 {
     let from = (m % 16) as usize;
     let at = r[from];
-    match Long::load(memory, at) {
-        Loaded::Value(v) => {
-            r[from] = wrapping_add_u32(at, 4);
-            Popped {
-                control: control.with_register(register, v),
-                flow: Flow::Next,
-            }
-        }
-        Loaded::Fault => Popped {
+    let Some(v) = Long::load(memory, at) else {
+        return Popped {
             control,
             flow: Flow::Fault,
-        },
+        };
+    };
+    r[from] = wrapping_add_u32(at, 4);
+    Popped {
+        control: control.with_register(register, v),
+        flow: Flow::Next,
     }
 }
 
@@ -68,11 +66,9 @@ pub fn store_control_long(
 {
     let into = (n % 16) as usize;
     let at = sums::sub(4, r[into]);
-    match Long::store(memory, at, control.register(register)) {
-        Stored::Done => {
-            r[into] = at;
-            Flow::Next
-        }
-        Stored::Fault => Flow::Fault,
+    if Long::store(memory, at, control.register(register)).is_err() {
+        return Flow::Fault;
     }
+    r[into] = at;
+    Flow::Next
 }

@@ -15,18 +15,18 @@ use Rattle.memory_instructions.proofs.accumulate.multiply_add.Goals as goal
 set_back : (xs : List ℕ) (i x : ℕ) → xs ≡ set (set xs i x) i (get_or xs i 0)
 set_back xs i x = sym (set-set xs i x (get_or xs i 0) ∙ set-get_or xs i 0)
 
-pub returns-in-Fault-operand : goal.returns-in-Fault-operand
-returns-in-Fault-operand c =
+pub returns-in_default-operand : goal.returns-in_default-operand
+returns-in_default-operand c =
     λ k.
     let a = c.args in
     let s = state a.r.now (with_sr a.sr (with_mac a.mach.now a.macl.now k)) a.memory.now in
     let kb = c.operand_bytes-k.ensures in
     rw (
       multiply_add a.operation a.m a.n (following s.control.pc) s,
-      met c.operand.ensures c.in-Value.is,
+      met c.operand.ensures c.in-Some.is,
       sym kb,
       sym c.wrapping_add_u32.ensures.value,
       kb,
-      met c.operand-in-Value.ensures c.in-Fault-operand.is,
+      met c.operand-2.ensures c.in_default-operand.is,
     )
     (ap (λ x. leads Fault (state x s.control a.memory.now)) (set_back a.r.now (a.n % 16) c.wrapping_add_u32.result))

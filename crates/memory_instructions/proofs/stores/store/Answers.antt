@@ -8,18 +8,18 @@ use Rattle.instructions.proofs.Families.{store as mov_store}
 use Rattle.instructions.proofs.Answers.{store_done, store_failed}
 use Rattle.memory_instructions.proofs.stores.store.Goals as goal
 
-pub returns-in-Done : goal.returns-in-Done
-returns-in-Done c =
+pub returns-in-Ok : goal.returns-in-Ok
+returns-in-Ok c =
     λ k.
     let a = c.args in
     let s = state a.r.now (with_gbr a.gbr k) a.memory.now in
     rw (mov_store a.size a.m a.address (following s.control.pc) s, sym (c.effective-at.ensures k a.memory.now))
-    (store_done (bytes a.size) _ _ s (λ t. t) _ _ c.store.ensures c.in-Done.is)
+    (store_done (bytes a.size) _ _ s (λ t. t) _ _ c.store.ensures c.in-Ok.is)
 
-pub returns-in-Fault : goal.returns-in-Fault
-returns-in-Fault c =
+pub returns-in-Err : goal.returns-in-Err
+returns-in-Err c =
     λ k.
     let a = c.args in
     let s = state a.r.now (with_gbr a.gbr k) a.memory.now in
     rw (mov_store a.size a.m a.address (following s.control.pc) s, sym (c.effective-at.ensures k a.memory.now))
-    (store_failed (bytes a.size) _ _ s (λ t. t) _ _ c.store.ensures c.in-Fault.is)
+    (store_failed (bytes a.size) _ _ s (λ t. t) _ _ c.store.ensures c.in-Err.is)
