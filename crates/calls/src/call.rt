@@ -1,7 +1,7 @@
 // A call of one of the machine's operations, with its line.
 use crate::given::Situation;
 use crate::lines;
-use machine::{Answer, Machine};
+use machine::{Answer, Machine, Refused};
 use std::io;
 
 #[derive(Clone, Copy)]
@@ -18,14 +18,23 @@ impl Call {
         let mut left = given;
         let lent = given.lent.min(left.image.len());
         let answer = self.answer(given.machine, &mut left.image[..lent]);
-        left.machine = answer.machine;
         lines::handed(rt, self, &given)?;
-        lines::gave(rt, self, &answer, &given.machine)?;
-        lines::left(rt, &left.image, &given.image)?;
+        left.machine = match answer {
+            Ok(Answer { machine, steps }) => {
+                print!(rt; "accepted, steps {steps}, ")?;
+                machine
+            }
+            Err(Refused { refusal, machine }) => {
+                print!(rt; "refused {}, steps 0, ", u32::from(refusal))?;
+                machine
+            }
+        };
+        lines::machine_left(rt, self, &left.machine, &given.machine)?;
+        lines::memory_left(rt, &left.image, &given.image)?;
         Ok(left)
     }
 
-    fn answer(self, given: Machine, memory: &mut [u8]) -> Answer {
+    fn answer(self, given: Machine, memory: &mut [u8]) -> Result<Answer, Refused> {
         match self {
             Call::Reset => machine::reset(memory),
             Call::Step => machine::step(given, memory),

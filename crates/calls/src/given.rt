@@ -1,7 +1,7 @@
 // What the calls are handed.
 use instructions::Control;
 use machine::{Machine, Mode};
-use memory::{Long, Word};
+use memory::{Access, Long, Word};
 
 // A machine, and the memory of which the first bytes, `lent` of them, are lent to it.
 #[derive(Clone, Copy)]
@@ -14,16 +14,16 @@ pub struct Situation {
 impl Situation {
     // The blank machine, and document 01's image ("The runner").
     pub fn from_blank() -> Situation {
-        let mut image = [0u8; 1024];
-        Long::store(&mut image, 0, 0x200);
-        Long::store(&mut image, 4, 0x400);
-        Word::store(&mut image, 0x200, 0xe005);
-        Word::store(&mut image, 0x202, 0x001b);
-        Situation {
-            image,
-            lent: image.len(),
+        let nothing = Situation {
+            image: [0; 1024],
+            lent: 1024,
             machine: Machine::blank(),
-        }
+        };
+        nothing
+            .with::<Long>(0, 0x200)
+            .with::<Long>(4, 0x400)
+            .with::<Word>(0x200, 0xe005)
+            .with::<Word>(0x202, 0x001b)
     }
 
     // Document 01's image, and a machine at its first instruction.
@@ -36,16 +36,20 @@ impl Situation {
 
     // The undefined word in the place of the first instruction, with the vectors 4, 6 and 9 of VBR H'80.
     pub fn undefined(pc: u32, vbr: u32, r15: u32, mode: Mode) -> Situation {
-        let mut given = Situation::from_blank().with_word(0x200, 0xffff);
-        Long::store(&mut given.image, 0x90, 0x300);
-        Long::store(&mut given.image, 0x98, 0x310);
-        Long::store(&mut given.image, 0xa4, 0x320);
-        given.machine = marked_machine(pc, 0xf0, vbr, r15, mode);
-        given
+        let given = Situation::from_blank()
+            .with::<Word>(0x200, 0xffff)
+            .with::<Long>(0x90, 0x300)
+            .with::<Long>(0x98, 0x310)
+            .with::<Long>(0xa4, 0x320);
+        Situation {
+            machine: marked_machine(pc, 0xf0, vbr, r15, mode),
+            ..given
+        }
     }
 
-    pub fn with_word(mut self, at: u32, word: u32) -> Situation {
-        Word::store(&mut self.image, at, word);
+    // An address outside the image, which no situation here has, changes nothing.
+    pub fn with<A: Access>(mut self, at: u32, value: u32) -> Situation {
+        let _ = A::store(&mut self.image, at, value);
         self
     }
 

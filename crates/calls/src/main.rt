@@ -9,6 +9,7 @@ mod lines;
 use call::Call;
 use given::Situation;
 use machine::{Mode, Stop};
+use memory::Word;
 use std::io;
 
 const LARGEST_BUDGET: u32 = 0xffffffff;
@@ -76,9 +77,9 @@ fn over_bytes(rt: &impl Print, length: usize) -> io::Result<()> {
 // "A taken delayed branch is a step of its own", so a budget may end between it and its slot.
 fn before_a_slot(rt: &impl Print) -> io::Result<()> {
     println!(rt; "BRA H'206; MOV #5,R0; SLEEP at H'206")?;
-    let branch = Situation::from_blank().with_word(0x200, 0xa001);
-    let slot = branch.with_word(0x202, 0xe005);
-    let started = Call::Reset.make(rt, slot.with_word(0x206, 0x001b))?;
+    let branch = Situation::from_blank().with::<Word>(0x200, 0xa001);
+    let slot = branch.with::<Word>(0x202, 0xe005);
+    let started = Call::Reset.make(rt, slot.with::<Word>(0x206, 0x001b))?;
     let cut = Call::Run(1).make(rt, started)?;
     Call::Run(0).make(rt, cut)?;
     let target = Call::Step.make(rt, cut)?;

@@ -2,8 +2,8 @@
 // T and the steps reported in sum.
 #![tactic(auto)]
 
-use machine::{Answer, Machine, Mode};
-use memory::Word;
+use machine::{Answer, Machine, Mode, Refused};
+use memory::{Access, Fault, Word};
 use std::io;
 
 // High, low and the divisor.
@@ -58,25 +58,29 @@ const DIV1_R0_R2: u32 = 0x3204;
 
 fn main(rt: HostRuntime) -> io::Result<()> {
     let mut image = [0u8; 1024];
-    place(&mut image);
+    if place(&mut image).is_err() {
+        return println!(rt; "the sequence does not fit");
+    }
     for (high, low, divisor) in CASES {
         for (cut, budgets) in CUTS.iter().enumerate() {
-            let answer = divide(before(high, low, divisor), &mut image, budgets);
             print!(rt; "{high:08x}:{low:08x} / {divisor:08x} cut {cut}: ")?;
-            print_after(&rt, &answer)?;
+            match divide(before(high, low, divisor), &mut image, budgets) {
+                Ok(answer) => print_after(&rt, &answer)?,
+                Err(refused) => println!(rt; "refused {}", u32::from(refused.refusal))?,
+            }
         }
     }
     Ok(())
 }
 
-fn place(image: &mut [u8]) {
-    Word::store(image, START, DIV0U);
+fn place(image: &mut [u8]) -> Result<(), Fault> {
+    Word::store(image, START, DIV0U)?;
     for pair in 0..32 {
         let at = START + 2 + pair * 4;
-        Word::store(image, at, ROTCL_R1);
-        Word::store(image, at + 2, DIV1_R0_R2);
+        Word::store(image, at, ROTCL_R1)?;
+        Word::store(image, at + 2, DIV1_R0_R2)?;
     }
-    Word::store(image, START + 130, ROTCL_R1);
+    Word::store(image, START + 130, ROTCL_R1)
 }
 
 // The divisor is in R0, low in R1, high in R2.
@@ -91,14 +95,19 @@ fn before(high: u32, low: u32, divisor: u32) -> Machine {
 }
 
 // What the last run answers, with the steps of all.
-fn divide(before: Machine, image: &mut [u8], budgets: &[u32]) -> Answer {
-    let mut sum = machine::run(before, image, 0);
+fn divide(before: Machine, image: &mut [u8], budgets: &[u32]) -> Result<Answer, Refused> {
+    let mut sum = Answer {
+        machine: before,
+        steps: 0,
+    };
     for budget in budgets {
-        let answer = machine::run(sum.machine, image, *budget);
-        sum.machine = answer.machine;
-        sum.steps = sum.steps.saturating_add(answer.steps);
+        let answer = machine::run(sum.machine, image, *budget)?;
+        sum = Answer {
+            steps: sum.steps.saturating_add(answer.steps),
+            ..answer
+        };
     }
-    sum
+    Ok(sum)
 }
 
 fn print_after(rt: &impl Print, answer: &Answer) -> io::Result<()> {

@@ -1,7 +1,7 @@
 // The image of an example, and its execution. Reset reads the address of a prologue, which loads the registers from their longs.
 use crate::table::{Before, Code, Example, Register};
 use machine::Answer;
-use memory::{Long, Word};
+use memory::{Access, Fault, Long, Word};
 
 const SLEEP: u16 = 0x001b;
 
@@ -35,60 +35,60 @@ const PROLOGUE: [u16; 22] = [
     0x6ff6, // MOV.L @R15+,R15, in the slot of RTE
 ];
 
-// The prologue is run apart, so that the steps of the answer are the example's.
-pub fn execute(image: &mut [u8], example: &Example) -> Answer {
-    prepare(image);
-    lay_out(image, example);
-    let started = machine::reset(image);
-    let loaded = machine::run(started.machine, image, PROLOGUE.len() as u32);
-    machine::run(loaded.machine, image, example.budget)
+// The prologue is run apart, so that the steps of the answer are the example's. There is none where the example does not fit.
+pub fn execute(image: &mut [u8], example: &Example) -> Option<Answer> {
+    prepare(image).ok()?;
+    lay_out(image, example).ok()?;
+    let started = machine::reset(image).ok()?;
+    let loaded = machine::run(started.machine, image, PROLOGUE.len() as u32).ok()?;
+    machine::run(loaded.machine, image, example.budget).ok()
 }
 
 // What every example needs.
-fn prepare(image: &mut [u8]) {
-    Long::store(image, 0, PROLOGUE_AT);
-    Long::store(image, 4, REGISTERS_AT);
-    append(image, PROLOGUE_AT, &PROLOGUE);
+fn prepare(image: &mut [u8]) -> Result<(), Fault> {
+    Long::store(image, 0, PROLOGUE_AT)?;
+    Long::store(image, 4, REGISTERS_AT)?;
+    append(image, PROLOGUE_AT, &PROLOGUE)?;
+    Ok(())
 }
 
-fn lay_out(image: &mut [u8], example: &Example) {
-    set(image, Register::PC, example.start);
+fn lay_out(image: &mut [u8], example: &Example) -> Result<(), Fault> {
+    set(image, Register::PC, example.start)?;
     for before in example.before {
         match *before {
-            Before::Set(register, value) => set(image, register, value),
-            Before::Store(at, value) => {
-                Long::store(image, at, value);
-            }
+            Before::Set(register, value) => set(image, register, value)?,
+            Before::Store(at, value) => Long::store(image, at, value)?,
         }
     }
     let mut at = example.start;
     for code in example.program {
         at = match *code {
-            Code::Word(word) => append(image, at, &[word]),
-            Code::Repeat(times, words) => repeat(image, at, times, words),
+            Code::Word(word) => append(image, at, &[word])?,
+            Code::Repeat(times, words) => repeat(image, at, times, words)?,
         };
     }
-    append(image, at, &[SLEEP]);
+    append(image, at, &[SLEEP])?;
+    Ok(())
 }
 
-fn set(image: &mut [u8], register: Register, value: u32) {
-    Long::store(image, REGISTERS_AT + register as u32 * 4, value);
+fn set(image: &mut [u8], register: Register, value: u32) -> Result<(), Fault> {
+    Long::store(image, REGISTERS_AT + register as u32 * 4, value)
 }
 
-fn repeat(image: &mut [u8], at: u32, times: u8, words: &[u16]) -> u32 {
+fn repeat(image: &mut [u8], at: u32, times: u8, words: &[u16]) -> Result<u32, Fault> {
     let mut next = at;
     for _ in 0..times {
-        next = append(image, next, words);
+        next = append(image, next, words)?;
     }
-    next
+    Ok(next)
 }
 
 // Stores words of a program, and gives the address of the next.
-fn append(image: &mut [u8], at: u32, words: &[u16]) -> u32 {
+fn append(image: &mut [u8], at: u32, words: &[u16]) -> Result<u32, Fault> {
     let mut next = at;
     for word in words {
-        Word::store(image, next, *word as u32);
+        Word::store(image, next, *word as u32)?;
         next = next.wrapping_add(2);
     }
-    next
+    Ok(next)
 }

@@ -2,14 +2,17 @@
 use crate::image;
 use crate::table::{After, Example};
 use machine::{Answer, Mode};
-use memory::{Byte, Loaded, Long, Word};
+use memory::{Access, Byte, Long, Word};
 use std::io;
 
 pub fn play(rt: &impl Print, examples: &[Example]) -> io::Result<()> {
     for example in examples {
         let mut image = [0u8; 16384];
-        let answer = image::execute(&mut image, example);
         print!(rt; "{}", example.title)?;
+        let Some(answer) = image::execute(&mut image, example) else {
+            println!(rt; " does not fit")?;
+            continue;
+        };
         let mut separator = ": ";
         for after in example.after {
             print!(rt; "{separator}")?;
@@ -35,14 +38,14 @@ fn show(rt: &impl Print, after: After, answer: &Answer, image: &[u8]) -> io::Res
         After::WordAt(name, at) => show_loaded(rt, name, Word::load(image, at), 4),
         After::ByteAt(name, at) => show_loaded(rt, name, Byte::load(image, at), 2),
         After::T => print!(rt; "T = {}", machine.control.sr % 2),
-        After::Asleep => print!(rt; "asleep = {}", matches!(machine.mode, Mode::Asleep) as u8),
+        After::Asleep => print!(rt; "asleep = {}", (machine.mode == Mode::Asleep) as u8),
         After::Steps => print!(rt; "steps = {}", answer.steps),
     }
 }
 
-fn show_loaded(rt: &impl Print, name: &str, loaded: Loaded, digits: usize) -> io::Result<()> {
+fn show_loaded(rt: &impl Print, name: &str, loaded: Option<u32>, digits: usize) -> io::Result<()> {
     match loaded {
-        Loaded::Value(value) => print!(rt; "{name} = {value:0digits$x}"),
-        Loaded::Fault => print!(rt; "{name} = outside"),
+        Some(value) => print!(rt; "{name} = {value:0digits$x}"),
+        None => print!(rt; "{name} = outside"),
     }
 }
