@@ -1,8 +1,9 @@
 -- The ways that the entry of an exception can go, each from the accesses that it makes.
 -- Assumes nothing.
-use Rattle.std.specs.Prelude.{None, Some}
+use Rattle.std.specs.Prelude.{Result, Ok, ⊤}
 use Rattle.std.proofs.Common.{◌≡◌, ℕ, Bool, true, false, cond, not, ◌||◌, eqb, List, [], ◌∷◌, sym, refl, ap, ◌∙◌}
-use Rattle.memory.specs.Access.{accessible, loaded, stored_at, value_at, written}
+use Rattle.memory.specs.Access.{accessible, answered, stored_at, value_at, written, Stores}
+use Rattle.memory.specs.declared.access.Fault.{Fault}
 use Rattle.memory.specs.Lengths.{first, test}
 use Rattle.memory.proofs.Laws.{accessible_after_store, store_writes}
 use Rattle.instructions.specs.State.{State, changed, with_memory, with_pc, with_reg, with_sr}
@@ -70,21 +71,9 @@ entry_numbered number saved sr s =
     go false true = refl
     go false false = refl
 
-given_value : (test : Bool) (n v : ℕ) → test ≡ true → cond test (Some n) None ≡ Some v → v ≡ n
-given_value true n v can given = cc
-given_value false n v can given = cc
-
-pub value_loaded :
-    (k : ℕ) (memory : List ℕ) (address v : ℕ) → accessible k memory address ≡ true → loaded k memory address ≡ Some v →
-    v ≡ value_at k memory address
-unfolding loaded
-value_loaded k memory address v = given_value (accessible k memory address) (value_at k memory address) v
-
-given_fault : (test : Bool) (n x y : ℕ) → test ≡ true → cond test (Some n) None ≡ None → x ≡ y
-given_fault true n x y can given = cc
-given_fault false n x y can given = cc
-
-pub never_fails :
-    (k : ℕ) (memory : List ℕ) (address x y : ℕ) → accessible k memory address ≡ true → loaded k memory address ≡ None → x ≡ y
-unfolding loaded
-never_fails k memory address x y = given_fault (accessible k memory address) (value_at k memory address) x y
+-- A store that can be made is done.
+pub store_done :
+    (k : ℕ) (memory : List ℕ) (address value : ℕ) {answer : Result ⊤ Fault} {after : List ℕ} →
+    Stores k memory address value answer after → accessible k memory address ≡ true → answer ≡ Ok tt
+unfolding answered
+store_done k memory address value promise can = rw (promise.answers, can)

@@ -3,9 +3,8 @@ ghost use Rattle.std.specs.Prelude.{◌≡◌, length};
 ghost use Rattle.memory.specs.Lengths.{refused_length};
 ghost use Rattle.machine.specs.Calls as Calls;
 
-use crate::{Answer, Machine, Mode, Refusal, Refused, Stop, run_loop};
+use crate::{Answer, Machine, Mode, Refusal, Refused, Stop, exceptions, run_loop};
 use instructions::Control;
-use memory::{Access, Long};
 
 impl Machine {
     // Registers zero, SR H'F0, stopped for reason 2: what a refused reset returns.
@@ -51,9 +50,9 @@ fn start(machine: Machine, memory: &[u8]) -> Machine
     ensures { result ≡ Calls.start machine memory.now }
 {
     let mut r = machine.r;
-    r[15] = Long::load(memory, 4).unwrap();
+    r[15] = exceptions::long_at(memory, 4);
     let mut control = machine.control;
-    control.pc = Long::load(memory, 0).unwrap();
+    control.pc = exceptions::long_at(memory, 0);
     control.sr = 0xf0;
     control.vbr = 0;
     Machine {

@@ -5,7 +5,7 @@ use Rattle.memory.proofs.Laws.{accessible_after_store}
 use Rattle.instructions.specs.Promises.{state}
 use Rattle.instructions.specs.State.{State, control}
 use Rattle.instructions.proofs.Answers.{met}
-use Rattle.machine.proofs.Entries.{enters, first_push_fails, second_push_fails, vector_fails}
+use Rattle.machine.proofs.Entries.{enters, first_push_fails, store_done, second_push_fails, vector_fails}
 use Rattle.machine.proofs.exceptions.enter.Goals as goal
 
 pub returns-then-not-accessible : goal.returns-then-not-accessible
@@ -29,6 +29,15 @@ returns-then-not-accessible-3 c = λ gbr pr mach macl.
     vector_fails a.number a.saved a.sr s (search rules) (search rules) c.wrapping_add_u32-vector.ensures.value
     (met c.accessible.ensures c.if-not-accessible.false) (met c.accessible-2.ensures c.if-not-accessible-2.false)
     (met c.accessible-3.ensures c.if-not-accessible-3.true)
+
+pub unwrap-requires : goal.unwrap-requires
+unwrap-requires c = rw (store_done 4 _ _ _ c.store.ensures (met c.accessible.ensures c.if-not-accessible.false)) (search rules)
+
+pub unwrap-requires-2 : goal.unwrap-requires-2
+unwrap-requires-2 c =
+    rw (store_done 4 _ _ _ c.store-2.ensures
+    (rw (c.store.ensures.leaves, accessible_after_store 4 _ _ _ 4 _) (met c.accessible-2.ensures c.if-not-accessible-2.false)))
+    (search rules)
 
 pub long_at-requires : goal.long_at-requires
 long_at-requires c =

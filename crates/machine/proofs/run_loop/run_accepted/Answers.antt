@@ -11,7 +11,7 @@ loop-taken-init c =
 
 pub advance-mode-requires : goal.advance-mode-requires
 advance-mode-requires c =
-    met c.halted.ensures c.if-halted.false
+    met c.is_halted.ensures c.if-not-is_halted.true
 
 pub overflow_add-taken : goal.overflow_add-taken
 overflow_add-taken c =
@@ -23,12 +23,12 @@ loop-taken-smaller c =
 
 pub loop-taken-preserved : goal.loop-taken-preserved
 loop-taken-preserved c =
-    goes_on _ _ _ _ c.loop-taken.invariant _ c.loop-taken-test.true (met c.halted.ensures c.if-halted.false) c.advance-mode.ensures
+    goes_on _ _ _ _ c.loop-taken.invariant _ c.loop-taken-test.true (met c.is_halted.ensures c.if-not-is_halted.true) c.advance-mode.ensures
 
 pub returns-after-loop-taken : goal.returns-after-loop-taken
 returns-after-loop-taken c =
     rw (ends_with_the_budget _ _ _ _ c.loop-taken.invariant c.loop-taken-test.false)
 
-pub returns-then-halted : goal.returns-then-halted
-returns-then-halted c =
-    rw (ends_halted _ _ _ _ c.loop-taken.invariant (met c.halted.ensures c.if-halted.true))
+pub returns-else-not-is_halted : goal.returns-else-not-is_halted
+returns-else-not-is_halted c =
+    rw (ends_halted _ _ _ _ c.loop-taken.invariant (met c.is_halted.ensures c.if-not-is_halted.false))
