@@ -10,13 +10,14 @@ const BUDGET: u32 = 1000000;
 fn main(rt: HostRuntime) -> io::Result<()> {
     let mut image = [0u8; 65536];
     let n = input::read_full(&mut rt.stdin(), &mut image);
-    match run(&mut image[..n]) {
-        Ok(answer) => println!(rt; "{} {}", answer.steps, answer.machine.control.pc),
-        Err(refused) => println!(rt; "0 {}", refused.machine.control.pc),
-    }
+    let (steps, pc) = match measured(&mut image[..n]) {
+        Ok(answer) => (answer.steps, answer.machine.control.pc),
+        Err(refused) => (0, refused.machine.control.pc),
+    };
+    println!(rt; "{steps} {pc}")
 }
 
-fn run(memory: &mut [u8]) -> Result<Answer, Refused> {
-    let started = machine::reset(memory)?;
-    machine::run(started.machine, memory, BUDGET)
+fn measured(image: &mut [u8]) -> Result<Answer, Refused> {
+    let started = machine::reset(image)?;
+    machine::run(started.machine, image, BUDGET)
 }
