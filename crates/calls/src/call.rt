@@ -1,7 +1,7 @@
 // A call of one of the machine's operations, with its line.
 use crate::given::Situation;
 use crate::lines;
-use machine::{Answer, Machine};
+use machine::{Answer, Machine, Refused};
 use std::io;
 
 #[derive(Clone, Copy)]
@@ -12,43 +12,33 @@ pub enum Call {
     Run(u32),
 }
 
-// Gives what the call left.
-pub fn make(rt: &impl Print, call: Call, given: Situation) -> io::Result<Situation> {
-    make_over(rt, 1024, call, given)
-}
-
-// The same, with no more than so many bytes of the image lent.
-pub fn make_over(
-    rt: &impl Print,
-    length: usize,
-    call: Call,
-    given: Situation,
-) -> io::Result<Situation> {
-    let machine = given.machine;
-    let image = given.image;
-    let mut memory = given.image;
-    let answer = answer_over(length, call, machine, &mut memory);
-    lines::handed(rt, call, machine, length)?;
-    lines::gave(rt, call, answer, machine)?;
-    lines::left(rt, &memory, &image)?;
-    let after = answer.machine;
-    Ok(Situation {
-        image: memory,
-        machine: after,
-    })
-}
-
-fn answer_over(length: usize, call: Call, given: Machine, memory: &mut [u8]) -> Answer {
-    if length < memory.len() {
-        return answer(call, given, &mut memory[..length]);
+impl Call {
+    // Gives what the call left.
+    pub fn make(self, rt: &impl Print, given: Situation) -> io::Result<Situation> {
+        let mut left = given;
+        let lent = given.lent.min(left.image.len());
+        let answer = self.answer(given.machine, &mut left.image[..lent]);
+        lines::handed(rt, self, &given)?;
+        left.machine = match answer {
+            Ok(Answer { machine, steps }) => {
+                print!(rt; "accepted, steps {steps}, ")?;
+                machine
+            }
+            Err(Refused { refusal, machine }) => {
+                print!(rt; "refused {}, steps 0, ", u32::from(refusal))?;
+                machine
+            }
+        };
+        lines::machine_left(rt, self, &left.machine, &given.machine)?;
+        lines::memory_left(rt, &left.image, &given.image)?;
+        Ok(left)
     }
-    answer(call, given, memory)
-}
 
-fn answer(call: Call, given: Machine, memory: &mut [u8]) -> Answer {
-    match call {
-        Call::Reset => machine::reset(memory),
-        Call::Step => machine::step(given, memory),
-        Call::Run(budget) => machine::run(given, memory, budget),
+    fn answer(self, given: Machine, memory: &mut [u8]) -> Result<Answer, Refused> {
+        match self {
+            Call::Reset => machine::reset(memory),
+            Call::Step => machine::step(given, memory),
+            Call::Run(budget) => machine::run(given, memory, budget),
+        }
     }
 }

@@ -1,50 +1,61 @@
 // What the calls are handed.
 use instructions::Control;
 use machine::{Machine, Mode};
-use memory::{Long, Word};
+use memory::{Access, Long, Word};
 
-// A machine, and the memory that is lent to it.
+// A machine, and the memory of which the first bytes, `lent` of them, are lent to it.
 #[derive(Clone, Copy)]
 pub struct Situation {
     pub image: [u8; 1024],
+    pub lent: usize,
     pub machine: Machine,
 }
 
-// The blank machine, and document 01's image ("The runner").
-pub fn from_blank() -> Situation {
-    let machine = Machine::blank();
-    let mut image = [0u8; 1024];
-    Long::store(&mut image, 0, 0x200);
-    Long::store(&mut image, 4, 0x400);
-    Word::store(&mut image, 0x200, 0xe005);
-    Word::store(&mut image, 0x202, 0x001b);
-    Situation { image, machine }
-}
+impl Situation {
+    // The blank machine, and document 01's image ("The runner").
+    pub fn from_blank() -> Situation {
+        let nothing = Situation {
+            image: [0; 1024],
+            lent: 1024,
+            machine: Machine::blank(),
+        };
+        nothing
+            .with::<Long>(0, 0x200)
+            .with::<Long>(4, 0x400)
+            .with::<Word>(0x200, 0xe005)
+            .with::<Word>(0x202, 0x001b)
+    }
 
-pub fn with_word(given: Situation, at: u32, word: u32) -> Situation {
-    let machine = given.machine;
-    let mut image = given.image;
-    Word::store(&mut image, at, word);
-    Situation { image, machine }
-}
+    // Document 01's image, and a machine at its first instruction.
+    pub fn marked(sr: u32, mode: Mode) -> Situation {
+        Situation {
+            machine: marked_machine(0x200, sr, 0, 0x400, mode),
+            ..Situation::from_blank()
+        }
+    }
 
-// Document 01's image, and a machine at its first instruction.
-pub fn marked(sr: u32, mode: Mode) -> Situation {
-    let machine = marked_machine(0x200, sr, 0, 0x400, mode);
-    let document = from_blank();
-    let image = document.image;
-    Situation { image, machine }
-}
+    // The undefined word in the place of the first instruction, with the vectors 4, 6 and 9 of VBR H'80.
+    pub fn undefined(pc: u32, vbr: u32, r15: u32, mode: Mode) -> Situation {
+        let given = Situation::from_blank()
+            .with::<Word>(0x200, 0xffff)
+            .with::<Long>(0x90, 0x300)
+            .with::<Long>(0x98, 0x310)
+            .with::<Long>(0xa4, 0x320);
+        Situation {
+            machine: marked_machine(pc, 0xf0, vbr, r15, mode),
+            ..given
+        }
+    }
 
-// The undefined word in the place of the first instruction, with the vectors 4, 6 and 9 of VBR H'80.
-pub fn undefined(pc: u32, vbr: u32, r15: u32, mode: Mode) -> Situation {
-    let machine = marked_machine(pc, 0xf0, vbr, r15, mode);
-    let document = with_word(from_blank(), 0x200, 0xffff);
-    let mut image = document.image;
-    Long::store(&mut image, 0x90, 0x300);
-    Long::store(&mut image, 0x98, 0x310);
-    Long::store(&mut image, 0xa4, 0x320);
-    Situation { image, machine }
+    // An address outside the image, which no situation here has, changes nothing.
+    pub fn with<A: Access>(mut self, at: u32, value: u32) -> Situation {
+        let _ = A::store(&mut self.image, at, value);
+        self
+    }
+
+    pub fn lending(self, lent: usize) -> Situation {
+        Situation { lent, ..self }
+    }
 }
 
 // Each of the other registers has a value of its own, so that one which a call loses shows.

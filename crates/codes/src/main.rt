@@ -4,212 +4,179 @@
 
 use std::io;
 
-const ROWS: usize = 142;
+// The row number of a word that no row has.
+const UNDEFINED: u8 = PATTERNS.len() as u8;
 
-const WORDS: u64 = 65536;
-
-const PATTERNS: [u8; 2272] = *b"\
-    0111nnnniiiiiiii\
-    0011nnnnmmmm1100\
-    0011nnnnmmmm1110\
-    0011nnnnmmmm1111\
-    11001001iiiiiiii\
-    0010nnnnmmmm1001\
-    11001101iiiiiiii\
-    10001011dddddddd\
-    10001111dddddddd\
-    1010dddddddddddd\
-    0000mmmm00100011\
-    1011dddddddddddd\
-    0000mmmm00000011\
-    10001001dddddddd\
-    10001101dddddddd\
-    0000000000101000\
-    0000000000001000\
-    10001000iiiiiiii\
-    0011nnnnmmmm0000\
-    0011nnnnmmmm0011\
-    0011nnnnmmmm0111\
-    0011nnnnmmmm0110\
-    0011nnnnmmmm0010\
-    0100nnnn00010101\
-    0100nnnn00010001\
-    0010nnnnmmmm1100\
-    0010nnnnmmmm0111\
-    0000000000011001\
-    0011nnnnmmmm0100\
-    0011nnnnmmmm1101\
-    0011nnnnmmmm0101\
-    0100nnnn00010000\
-    0110nnnnmmmm1110\
-    0110nnnnmmmm1111\
-    0110nnnnmmmm1100\
-    0110nnnnmmmm1101\
-    0100mmmm00101011\
-    0100mmmm00001011\
-    0100mmmm00011110\
-    0100mmmm00001110\
-    0100mmmm00101110\
-    0100mmmm00010111\
-    0100mmmm00000111\
-    0100mmmm00100111\
-    0100mmmm00001010\
-    0100mmmm00011010\
-    0100mmmm00101010\
-    0100mmmm00000110\
-    0100mmmm00010110\
-    0100mmmm00100110\
-    0000nnnnmmmm1111\
-    0100nnnnmmmm1111\
-    1110nnnniiiiiiii\
-    0110nnnnmmmm0011\
-    11000100dddddddd\
-    10000100mmmmdddd\
-    0000nnnnmmmm1100\
-    0110nnnnmmmm0100\
-    0110nnnnmmmm0000\
-    11000000dddddddd\
-    10000000nnnndddd\
-    0000nnnnmmmm0100\
-    0010nnnnmmmm0100\
-    0010nnnnmmmm0000\
-    11000110dddddddd\
-    1101nnnndddddddd\
-    0101nnnnmmmmdddd\
-    0000nnnnmmmm1110\
-    0110nnnnmmmm0110\
-    0110nnnnmmmm0010\
-    11000010dddddddd\
-    0001nnnnmmmmdddd\
-    0000nnnnmmmm0110\
-    0010nnnnmmmm0110\
-    0010nnnnmmmm0010\
-    11000101dddddddd\
-    1001nnnndddddddd\
-    10000101mmmmdddd\
-    0000nnnnmmmm1101\
-    0110nnnnmmmm0101\
-    0110nnnnmmmm0001\
-    11000001dddddddd\
-    10000001nnnndddd\
-    0000nnnnmmmm0101\
-    0010nnnnmmmm0101\
-    0010nnnnmmmm0001\
-    11000111dddddddd\
-    0000nnnn00101001\
-    0000nnnnmmmm0111\
-    0010nnnnmmmm1111\
-    0010nnnnmmmm1110\
-    0110nnnnmmmm1011\
-    0110nnnnmmmm1010\
-    0000000000001001\
-    0110nnnnmmmm0111\
-    11001011iiiiiiii\
-    0010nnnnmmmm1011\
-    11001111iiiiiiii\
-    0100nnnn00100100\
-    0100nnnn00100101\
-    0100nnnn00000100\
-    0100nnnn00000101\
-    0000000000101011\
-    0000000000001011\
-    0000000000011000\
-    0100nnnn00100000\
-    0100nnnn00100001\
-    0100nnnn00000000\
-    0100nnnn00001000\
-    0100nnnn00011000\
-    0100nnnn00101000\
-    0100nnnn00000001\
-    0100nnnn00001001\
-    0100nnnn00011001\
-    0100nnnn00101001\
-    0000000000011011\
-    0000nnnn00010010\
-    0000nnnn00000010\
-    0000nnnn00100010\
-    0100nnnn00010011\
-    0100nnnn00000011\
-    0100nnnn00100011\
-    0000nnnn00001010\
-    0000nnnn00011010\
-    0000nnnn00101010\
-    0100nnnn00000010\
-    0100nnnn00010010\
-    0100nnnn00100010\
-    0011nnnnmmmm1000\
-    0011nnnnmmmm1010\
-    0011nnnnmmmm1011\
-    0110nnnnmmmm1000\
-    0110nnnnmmmm1001\
-    0100nnnn00011011\
-    11000011iiiiiiii\
-    11001000iiiiiiii\
-    0010nnnnmmmm1000\
-    11001100iiiiiiii\
-    11001010iiiiiiii\
-    0010nnnnmmmm1010\
-    11001110iiiiiiii\
-    0010nnnnmmmm1101";
-
-#[derive(Clone, Copy)]
-struct Words {
-    count: u64,
-    first: u64,
-    last: u64,
-}
+const PATTERNS: [&str; 142] = [
+    "0111nnnniiiiiiii",
+    "0011nnnnmmmm1100",
+    "0011nnnnmmmm1110",
+    "0011nnnnmmmm1111",
+    "11001001iiiiiiii",
+    "0010nnnnmmmm1001",
+    "11001101iiiiiiii",
+    "10001011dddddddd",
+    "10001111dddddddd",
+    "1010dddddddddddd",
+    "0000mmmm00100011",
+    "1011dddddddddddd",
+    "0000mmmm00000011",
+    "10001001dddddddd",
+    "10001101dddddddd",
+    "0000000000101000",
+    "0000000000001000",
+    "10001000iiiiiiii",
+    "0011nnnnmmmm0000",
+    "0011nnnnmmmm0011",
+    "0011nnnnmmmm0111",
+    "0011nnnnmmmm0110",
+    "0011nnnnmmmm0010",
+    "0100nnnn00010101",
+    "0100nnnn00010001",
+    "0010nnnnmmmm1100",
+    "0010nnnnmmmm0111",
+    "0000000000011001",
+    "0011nnnnmmmm0100",
+    "0011nnnnmmmm1101",
+    "0011nnnnmmmm0101",
+    "0100nnnn00010000",
+    "0110nnnnmmmm1110",
+    "0110nnnnmmmm1111",
+    "0110nnnnmmmm1100",
+    "0110nnnnmmmm1101",
+    "0100mmmm00101011",
+    "0100mmmm00001011",
+    "0100mmmm00011110",
+    "0100mmmm00001110",
+    "0100mmmm00101110",
+    "0100mmmm00010111",
+    "0100mmmm00000111",
+    "0100mmmm00100111",
+    "0100mmmm00001010",
+    "0100mmmm00011010",
+    "0100mmmm00101010",
+    "0100mmmm00000110",
+    "0100mmmm00010110",
+    "0100mmmm00100110",
+    "0000nnnnmmmm1111",
+    "0100nnnnmmmm1111",
+    "1110nnnniiiiiiii",
+    "0110nnnnmmmm0011",
+    "11000100dddddddd",
+    "10000100mmmmdddd",
+    "0000nnnnmmmm1100",
+    "0110nnnnmmmm0100",
+    "0110nnnnmmmm0000",
+    "11000000dddddddd",
+    "10000000nnnndddd",
+    "0000nnnnmmmm0100",
+    "0010nnnnmmmm0100",
+    "0010nnnnmmmm0000",
+    "11000110dddddddd",
+    "1101nnnndddddddd",
+    "0101nnnnmmmmdddd",
+    "0000nnnnmmmm1110",
+    "0110nnnnmmmm0110",
+    "0110nnnnmmmm0010",
+    "11000010dddddddd",
+    "0001nnnnmmmmdddd",
+    "0000nnnnmmmm0110",
+    "0010nnnnmmmm0110",
+    "0010nnnnmmmm0010",
+    "11000101dddddddd",
+    "1001nnnndddddddd",
+    "10000101mmmmdddd",
+    "0000nnnnmmmm1101",
+    "0110nnnnmmmm0101",
+    "0110nnnnmmmm0001",
+    "11000001dddddddd",
+    "10000001nnnndddd",
+    "0000nnnnmmmm0101",
+    "0010nnnnmmmm0101",
+    "0010nnnnmmmm0001",
+    "11000111dddddddd",
+    "0000nnnn00101001",
+    "0000nnnnmmmm0111",
+    "0010nnnnmmmm1111",
+    "0010nnnnmmmm1110",
+    "0110nnnnmmmm1011",
+    "0110nnnnmmmm1010",
+    "0000000000001001",
+    "0110nnnnmmmm0111",
+    "11001011iiiiiiii",
+    "0010nnnnmmmm1011",
+    "11001111iiiiiiii",
+    "0100nnnn00100100",
+    "0100nnnn00100101",
+    "0100nnnn00000100",
+    "0100nnnn00000101",
+    "0000000000101011",
+    "0000000000001011",
+    "0000000000011000",
+    "0100nnnn00100000",
+    "0100nnnn00100001",
+    "0100nnnn00000000",
+    "0100nnnn00001000",
+    "0100nnnn00011000",
+    "0100nnnn00101000",
+    "0100nnnn00000001",
+    "0100nnnn00001001",
+    "0100nnnn00011001",
+    "0100nnnn00101001",
+    "0000000000011011",
+    "0000nnnn00010010",
+    "0000nnnn00000010",
+    "0000nnnn00100010",
+    "0100nnnn00010011",
+    "0100nnnn00000011",
+    "0100nnnn00100011",
+    "0000nnnn00001010",
+    "0000nnnn00011010",
+    "0000nnnn00101010",
+    "0100nnnn00000010",
+    "0100nnnn00010010",
+    "0100nnnn00100010",
+    "0011nnnnmmmm1000",
+    "0011nnnnmmmm1010",
+    "0011nnnnmmmm1011",
+    "0110nnnnmmmm1000",
+    "0110nnnnmmmm1001",
+    "0100nnnn00011011",
+    "11000011iiiiiiii",
+    "11001000iiiiiiii",
+    "0010nnnnmmmm1000",
+    "11001100iiiiiiii",
+    "11001010iiiiiiii",
+    "0010nnnnmmmm1010",
+    "11001110iiiiiiii",
+    "0010nnnnmmmm1101",
+];
 
 fn main(rt: HostRuntime) -> io::Result<()> {
-    let defined = print_rows(&rt)?;
-    let undefined = words_of(ROWS as u8);
-    print_total(&rt, "defined", defined)?;
-    print_total(&rt, "undefined", undefined.count)
-}
-
-// Prints a line for each row, and gives the number of words of all rows.
-fn print_rows(rt: &impl Print) -> io::Result<u64> {
-    let mut row: u8 = 0;
-    let mut defined: u64 = 0;
-    while (row as usize) < ROWS {
-        let words = words_of(row);
-        defined = defined.wrapping_add(words.count);
-        print_row(rt, row, words)?;
-        row += 1;
+    let mut defined: usize = 0;
+    for (pattern, row) in PATTERNS.iter().zip(0..UNDEFINED) {
+        let count = count_of(row);
+        print_row(&rt, pattern, row, count)?;
+        defined = defined.wrapping_add(count);
     }
-    Ok(defined)
+    println!(rt; "defined {defined}")?;
+    println!(rt; "undefined {}", count_of(UNDEFINED))
 }
 
-// The words whose meaning has this row number.
-fn words_of(row: u8) -> Words {
-    let mut count: u64 = 0;
-    let mut first: u64 = 0;
-    let mut last: u64 = 0;
-    let mut word: u64 = 0;
-    while word < WORDS {
-        if rows::row_number(decoder::decode(word as u16)) == row {
-            if count == 0 {
-                first = word;
-            }
-            last = word;
-            count += 1;
-        }
-        word += 1;
+fn print_row(rt: &impl Print, pattern: &str, row: u8, count: usize) -> io::Result<()> {
+    print!(rt; "{pattern} {count}")?;
+    let first = (0..=u16::MAX).find(|word| row_of(*word) == row);
+    let last = (0..=u16::MAX).rfind(|word| row_of(*word) == row);
+    for word in [first, last].iter().flatten() {
+        print!(rt; " {word:04x}")?;
     }
-    Words { count, first, last }
+    println!(rt)
 }
 
-fn print_row(rt: &impl Print, row: u8, words: Words) -> io::Result<()> {
-    print_pattern(rt, row)?;
-    println!(rt; " {} {:04x} {:04x}", words.count, words.first, words.last)
+fn count_of(row: u8) -> usize {
+    (0..=u16::MAX).filter(|word| row_of(*word) == row).count()
 }
 
-fn print_pattern(rt: &impl Print, row: u8) -> io::Result<()> {
-    let start = row as usize % ROWS * 16;
-    let end = start + 16;
-    let patterns = PATTERNS;
-    rt.write_all(&patterns[start..end])
-}
-
-fn print_total(rt: &impl Print, name: &str, count: u64) -> io::Result<()> {
-    println!(rt; "{name} {count}")
+fn row_of(word: u16) -> u8 {
+    rows::row_number(decoder::decode(word))
 }

@@ -2,55 +2,36 @@
 // and its bytes; count and length are longs, as in memory. Where the corpus breaks off, the output ends.
 #![tactic(auto)]
 
-use memory::{Loaded, Long};
 use std::io;
 use std::io::Read;
-
-// More than any length: the input has ended.
-const ENDED: u32 = 0xffffffff;
 
 fn main(rt: HostRuntime) -> io::Result<()> {
     let mut stdin = rt.stdin();
     // The longest image that is read.
-    let mut image = [0u8; 65540];
-    let count = read_long(&mut stdin);
-    let mut number: u32 = 0;
-    while number < count {
-        number += 1;
-        if !report_next(&rt, &mut stdin, number, &mut image)? {
+    let mut buffer = [0u8; 65540];
+    let count = read_long(&mut stdin).unwrap_or(0);
+    for number in 1..=count {
+        let Some(image) = read_image(&mut stdin, &mut buffer) else {
             break;
-        }
+        };
+        print_report(&rt, number, image)?;
     }
     Ok(())
 }
 
-// Answers whether there was a next image.
-fn report_next(
-    rt: &impl Print,
-    stdin: &mut impl Read,
-    number: u32,
-    image: &mut [u8],
-) -> io::Result<bool> {
-    let length = read_long(stdin) as usize;
-    if length > image.len() {
-        return Ok(false);
+// Reads the next image into the buffer, and gives the part that it takes.
+fn read_image<'a>(stdin: &mut impl Read, buffer: &'a mut [u8]) -> Option<&'a mut [u8]> {
+    let length = read_long(stdin)? as usize;
+    let image = buffer.get_mut(..length)?;
+    if input::read_full(stdin, image) < length {
+        return None;
     }
-    if input::read_full(stdin, &mut image[..length]) < length {
-        return Ok(false);
-    }
-    print_report(rt, number, &mut image[..length])?;
-    Ok(true)
+    Some(image)
 }
 
-fn read_long(stdin: &mut impl Read) -> u32 {
+fn read_long(stdin: &mut impl Read) -> Option<u32> {
     let mut bytes = [0u8; 4];
-    if input::read_full(stdin, &mut bytes) < 4 {
-        return ENDED;
-    }
-    match Long::load(&bytes, 0) {
-        Loaded::Value(value) => value,
-        Loaded::Fault => ENDED,
-    }
+    (input::read_full(stdin, &mut bytes) == bytes.len()).then_some(u32::from_be_bytes(bytes))
 }
 
 fn print_report(rt: &impl Print, number: u32, image: &mut [u8]) -> io::Result<()> {

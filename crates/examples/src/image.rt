@@ -1,15 +1,16 @@
-// The image of an example: what reset reads, the registers' longs and the code that loads them, and the machine after execution.
-use crate::table;
-use instructions::Control;
-use machine::{Answer, Mode};
-use memory::{Long, Word};
+// The image of an example, and its execution. Reset reads the address of a prologue, which loads the registers from their longs.
+use crate::table::{Before, Code, Example, Register};
+use machine::Answer;
+use memory::{Access, Fault, Long, Word};
+
+const SLEEP: u16 = 0x001b;
 
 const PROLOGUE_AT: u32 = 0x400;
 
-const PROLOGUE_STEPS: u32 = 22;
+const REGISTERS_AT: u32 = 0x500;
 
 // Reset has set R15 to the registers' longs.
-const PROLOGUE: [u32; 22] = [
+const PROLOGUE: [u16; 22] = [
     0x4f17, // LDC.L @R15+,GBR
     0x4f27, // LDC.L @R15+,VBR
     0x4f06, // LDS.L @R15+,MACH
@@ -34,73 +35,60 @@ const PROLOGUE: [u32; 22] = [
     0x6ff6, // MOV.L @R15+,R15, in the slot of RTE
 ];
 
+// The prologue is run apart, so that the steps of the answer are the example's. There is none where the example does not fit.
+pub fn execute(image: &mut [u8], example: &Example) -> Option<Answer> {
+    prepare(image).ok()?;
+    lay_out(image, example).ok()?;
+    let started = machine::reset(image).ok()?;
+    let loaded = machine::run(started.machine, image, PROLOGUE.len() as u32).ok()?;
+    machine::run(loaded.machine, image, example.budget).ok()
+}
+
 // What every example needs.
-pub fn prepare(image: &mut [u8]) {
-    Long::store(image, 0, PROLOGUE_AT);
-    Long::store(image, 4, table::place(table::GBR));
-    let mut at: u32 = PROLOGUE_AT;
-    let mut word: usize = 0;
-    while word < 22 {
-        at = append(image, at, PROLOGUE[word]);
-        word = word + 1;
+fn prepare(image: &mut [u8]) -> Result<(), Fault> {
+    Long::store(image, 0, PROLOGUE_AT)?;
+    Long::store(image, 4, REGISTERS_AT)?;
+    append(image, PROLOGUE_AT, &PROLOGUE)?;
+    Ok(())
+}
+
+fn lay_out(image: &mut [u8], example: &Example) -> Result<(), Fault> {
+    set(image, Register::PC, example.start)?;
+    for before in example.before {
+        match *before {
+            Before::Set(register, value) => set(image, register, value)?,
+            Before::Store(at, value) => Long::store(image, at, value)?,
+        }
     }
-}
-
-// Stores a word of a program, and gives the address of the next.
-pub fn append(image: &mut [u8], at: u32, word: u32) -> u32 {
-    Word::store(image, at, word);
-    at.wrapping_add(2)
-}
-
-// Leaves the registers after execution in their longs.
-pub fn execute(image: &mut [u8], budget: u32) {
-    let answer = run(image, budget);
-    let after = answer.machine;
-    let r = after.r;
-    keep_general(image, r);
-    let control = after.control;
-    keep_control(image, control);
-    let mode = after.mode;
-    keep(image, table::SHOW_ASLEEP, asleep(mode));
-    keep(image, table::SHOW_STEPS, answer.steps);
-}
-
-// The prologue is run apart, so that the steps of the answer are the example's.
-fn run(image: &mut [u8], budget: u32) -> Answer {
-    let started = machine::reset(image);
-    let loaded = machine::run(started.machine, image, PROLOGUE_STEPS);
-    machine::run(loaded.machine, image, budget)
-}
-
-fn keep(image: &mut [u8], name: u64, value: u32) {
-    Long::store(image, table::place(name), value);
-}
-
-fn keep_general(image: &mut [u8], r: [u32; 16]) {
-    let mut at: u32 = table::place(table::R0);
-    let mut n: usize = 0;
-    while n < 15 {
-        Long::store(image, at, r[n]);
-        at = at.wrapping_add(4);
-        n = n + 1;
+    let mut at = example.start;
+    for code in example.program {
+        at = match *code {
+            Code::Word(word) => append(image, at, &[word])?,
+            Code::Repeat(times, words) => repeat(image, at, times, words)?,
+        };
     }
-    keep(image, table::R15, r[15]);
+    append(image, at, &[SLEEP])?;
+    Ok(())
 }
 
-fn keep_control(image: &mut [u8], control: Control) {
-    keep(image, table::GBR, control.gbr);
-    keep(image, table::VBR, control.vbr);
-    keep(image, table::MACH, control.mach);
-    keep(image, table::MACL, control.macl);
-    keep(image, table::PR, control.pr);
-    keep(image, table::PC, control.pc);
-    keep(image, table::SR, control.sr);
-    keep(image, table::SHOW_T, control.sr % 2);
+fn set(image: &mut [u8], register: Register, value: u32) -> Result<(), Fault> {
+    Long::store(image, REGISTERS_AT + register as u32 * 4, value)
 }
 
-fn asleep(mode: Mode) -> u32 {
-    match mode {
-        Mode::Asleep => 1,
-        _ => 0,
+fn repeat(image: &mut [u8], at: u32, times: u8, words: &[u16]) -> Result<u32, Fault> {
+    let mut next = at;
+    for _ in 0..times {
+        next = append(image, next, words)?;
     }
+    Ok(next)
+}
+
+// Stores words of a program, and gives the address of the next.
+fn append(image: &mut [u8], at: u32, words: &[u16]) -> Result<u32, Fault> {
+    let mut next = at;
+    for word in words {
+        Word::store(image, next, *word as u32)?;
+        next = next.wrapping_add(2);
+    }
+    Ok(next)
 }

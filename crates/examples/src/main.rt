@@ -17,11 +17,16 @@ mod table;
 use std::io;
 
 fn main(rt: HostRuntime) -> io::Result<()> {
-    chapter_4::run(&rt)?;
-    notes::run(&rt)?;
-    add_to_cmp::run(&rt)?;
-    div1::run(&rt)?;
-    dmuls_to_mac::run(&rt)?;
-    mov_to_mulu::run(&rt)?;
-    negc_to_xtrct::run(&rt)
+    for examples in [
+        chapter_4::EXAMPLES,
+        notes::EXAMPLES,
+        add_to_cmp::EXAMPLES,
+        div1::EXAMPLES,
+        dmuls_to_mac::EXAMPLES,
+        mov_to_mulu::EXAMPLES,
+        negc_to_xtrct::EXAMPLES,
+    ] {
+        player::play(&rt, examples)?;
+    }
+    Ok(())
 }

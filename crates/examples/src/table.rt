@@ -1,78 +1,115 @@
-// The numbers of which the tables of examples are made, in the order in which an example has them. A number below H'10000 is a word
-// of the program.
+// What an example is: its parts, in the order in which the manual has them.
+use machine::Machine;
 
-// Sets the address of the words that follow, and of the start, if that is not H'1000.
-pub const ORG: u64 = 0x1_0000_00000000;
-
-// Before execution: NAME + long sets a register, and ADDRESS_LONG, as in 0x3000_12345678, a long of the memory. The name of a
-// register is the address of its long in the image: `image::PROLOGUE` loads the registers from there, in this order.
-pub const GBR: u64 = 0x500_00000000;
-
-pub const VBR: u64 = 0x504_00000000;
-
-pub const MACH: u64 = 0x508_00000000;
-
-pub const MACL: u64 = 0x50c_00000000;
-
-pub const PR: u64 = 0x510_00000000;
-
-pub const R0: u64 = 0x514_00000000;
-
-pub const R1: u64 = 0x518_00000000;
-
-pub const R2: u64 = 0x51c_00000000;
-
-pub const R3: u64 = 0x520_00000000;
-
-pub const R4: u64 = 0x524_00000000;
-
-pub const R5: u64 = 0x528_00000000;
-
-pub const R7: u64 = 0x530_00000000;
-
-pub const R13: u64 = 0x548_00000000;
-
-pub const R14: u64 = 0x54c_00000000;
-
-pub const PC: u64 = 0x550_00000000;
-
-pub const SR: u64 = 0x554_00000000;
-
-pub const R15: u64 = 0x558_00000000;
-
-// The manual's .arepeat 16 of one word, and .arepeat 32 of the two that the long has.
-pub const AREPEAT_16: u64 = 0x2_0000_00000000;
-
-pub const AREPEAT_32: u64 = 0x3_0000_00000000;
-
-// Executes the program, which SLEEP follows, for at most the steps that are added.
-pub const RUN: u64 = 0x4_0000_00000000;
-
-// After execution: prints a long, a word or a byte at the place that is added, in hexadecimal, or a long in decimal.
-pub const SHOW: u64 = 0x5_0000_00000000;
-
-pub const SHOW_WORD: u64 = 0x6_0000_00000000;
-
-pub const SHOW_BYTE: u64 = 0x7_0000_00000000;
-
-pub const SHOW_DECIMAL: u64 = 0x8_0000_00000000;
-
-pub const SHOW_T: u64 = 0x8_055c_00000000;
-
-// Whether the machine is asleep, 1 or 0.
-pub const SHOW_ASLEEP: u64 = 0x8_0560_00000000;
-
-// The steps of the example, its SLEEP included.
-pub const SHOW_STEPS: u64 = 0x8_0564_00000000;
-
-pub const END: u64 = 0x9_0000_00000000;
-
-// The address that a number names.
-pub fn place(number: u64) -> u32 {
-    (number / 0x1_00000000 % 0x10000) as u32
+#[derive(Clone, Copy)]
+pub struct Example {
+    // The section, and the program in the manual's words.
+    pub title: &'static str,
+    // The address of the program's first word, where execution starts.
+    pub start: u32,
+    pub before: &'static [Before],
+    // SLEEP follows it.
+    pub program: &'static [Code],
+    // At most so many steps are executed.
+    pub budget: u32,
+    pub after: &'static [After],
 }
 
-// The long that a number has.
-pub fn long(number: u64) -> u32 {
-    (number % 0x1_00000000) as u32
+// What most examples have.
+pub const PLAIN: Example = Example {
+    title: "",
+    start: 0x1000,
+    before: &[],
+    program: &[],
+    budget: 100,
+    after: &[],
+};
+
+// The state before execution.
+#[derive(Clone, Copy)]
+pub enum Before {
+    Set(Register, u32),
+    // A long of the memory: its address and its value.
+    Store(u32, u32),
+}
+
+#[derive(Clone, Copy)]
+pub enum Code {
+    Word(u16),
+    // The manual's .arepeat, with its number.
+    Repeat(u8, &'static [u16]),
+}
+
+// What is printed of the state after execution: registers, and parts of the memory by the manual's name and the address.
+#[derive(Clone, Copy)]
+pub enum After {
+    Value(Register),
+    // The low 16 bits.
+    LastWord(Register),
+    LongAt(&'static str, u32),
+    WordAt(&'static str, u32),
+    ByteAt(&'static str, u32),
+    T,
+    // Whether the machine is asleep, 1 or 0.
+    Asleep,
+    // The steps of the example, its SLEEP included.
+    Steps,
+}
+
+// In the order in which `image::PROLOGUE` loads them.
+#[derive(Clone, Copy, Debug)]
+pub enum Register {
+    GBR,
+    VBR,
+    MACH,
+    MACL,
+    PR,
+    R0,
+    R1,
+    R2,
+    R3,
+    R4,
+    R5,
+    R6,
+    R7,
+    R8,
+    R9,
+    R10,
+    R11,
+    R12,
+    R13,
+    R14,
+    PC,
+    SR,
+    R15,
+}
+
+impl Register {
+    pub fn value(self, machine: &Machine) -> u32 {
+        match self {
+            Register::GBR => machine.control.gbr,
+            Register::VBR => machine.control.vbr,
+            Register::MACH => machine.control.mach,
+            Register::MACL => machine.control.macl,
+            Register::PR => machine.control.pr,
+            Register::R0 => machine.r[0],
+            Register::R1 => machine.r[1],
+            Register::R2 => machine.r[2],
+            Register::R3 => machine.r[3],
+            Register::R4 => machine.r[4],
+            Register::R5 => machine.r[5],
+            Register::R6 => machine.r[6],
+            Register::R7 => machine.r[7],
+            Register::R8 => machine.r[8],
+            Register::R9 => machine.r[9],
+            Register::R10 => machine.r[10],
+            Register::R11 => machine.r[11],
+            Register::R12 => machine.r[12],
+            Register::R13 => machine.r[13],
+            Register::R14 => machine.r[14],
+            Register::PC => machine.control.pc,
+            Register::SR => machine.control.sr,
+            Register::R15 => machine.r[15],
+        }
+    }
 }

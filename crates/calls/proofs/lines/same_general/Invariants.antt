@@ -1,9 +1,0 @@
--- `same_general` goes through the sixteen registers.
-use Rattle.std.proofs.Common.{◌-◌, ◌≤◌}
-use Rattle.calls.proofs.lines.same_general.Given as goal
-
-abbrev pub invariant-loop-k : goal.invariant-loop-k
-invariant-loop-k g l = l.k ≤ 16
-
-abbrev pub decreases-loop-k : goal.decreases-loop-k
-decreases-loop-k g l = 16 - l.k
