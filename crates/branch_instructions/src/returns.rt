@@ -5,7 +5,6 @@ ghost use Rattle.instructions.specs.State.{with_pr, with_sr};
 use decoder::{Meaning, Return};
 use instructions::{Control, Flow};
 use memory::{Loaded, Long};
-use std::num::wrapping_add_u32;
 
 #[tactic(auto, unfolding(instructions::specs::Execute::execute))]
 pub fn return_by(operation: Return, sr: &mut u32, pr: u32, r: &mut [u32; 16], memory: &[u8]) -> Flow
@@ -23,9 +22,9 @@ fn from_exception(sr: &mut u32, r: &mut [u32; 16], memory: &[u8]) -> Flow
 {
     let top = r[15];
     match Long::load(memory, top) {
-        Loaded::Value(pc) => match Long::load(memory, wrapping_add_u32(top, 4)) {
+        Loaded::Value(pc) => match Long::load(memory, top.wrapping_add(4)) {
             Loaded::Value(popped) => {
-                r[15] = wrapping_add_u32(top, 8);
+                r[15] = top.wrapping_add(8);
                 *sr = popped & Control::SR_MASK;
                 Flow::Delay(pc)
             }
