@@ -10,7 +10,6 @@ use Rattle.memory.specs.declared.Loaded.TheVariants as loads
 use Rattle.memory.specs.declared.Stored.{Stored}
 use Rattle.memory.specs.declared.Stored.TheVariants as stores
 use Rattle.decoder.specs.declared.meaning.Size.{Size}
-use Rattle.decoder.specs.declared.meaning.Size.TheVariants.{Long}
 use Rattle.instructions.specs.Shapes.{Effect, after_load, leads, next, storing_and}
 use Rattle.instructions.specs.Promises.{extended, extended_load}
 use Rattle.instructions.specs.State.{State, with_memory}
@@ -27,10 +26,6 @@ passed false a b done = cc
 missed : {A : Type 0} (test : Bool) (a b : A) → cond test stores.Done stores.Fault ≡ stores.Fault → cond test a b ≡ b
 missed true a b failed = cc
 missed false a b failed = refl
-
-pub load_long : (l : Loaded) → l ≡ extended_load Long l
-load_long (loads.Value v) = refl
-load_long loads.Fault = refl
 
 pub load_value :
     (size : Size) (l : Loaded) (v : ℕ) (f : ℕ → Effect) (s : State) → extended_load size l ≡ loads.Value v →
