@@ -8,7 +8,8 @@ pub fn following(a: u32) -> u32
     a.wrapping_add(4)
 }
 
-// A branch by a displacement of which those from HALF up are negative. The width is a const parameter: docs/DECISIONS.md, "The code".
+// A branch by a displacement, of which those from HALF up are negative; the decoder gives d no bit above its width. HALF is a const
+// parameter, so that each width is compiled for itself: docs/DECISIONS.md, "The code".
 pub fn branch<const HALF: u32>(a: u32, d: u32) -> u32
     ensures { result ≡ Addresses.branch HALF (Addresses.following a) d }
 {

@@ -14,16 +14,35 @@ pub struct Mac {
     pub macl: u32,
 }
 
+impl From<u64> for Mac {
+    ghost from_gives = { λ x a. a ≡ Multiply.split x };
+
+    fn from(x: u64) -> Mac {
+        Mac {
+            mach: (x / REACH) as u32,
+            macl: (x % REACH) as u32,
+        }
+    }
+}
+
+impl From<Mac> for u64 {
+    ghost from_gives = { λ a x. x ≡ Multiply.joined a };
+
+    fn from(a: Mac) -> u64 {
+        a.mach as u64 * REACH + a.macl as u64
+    }
+}
+
 pub fn dmuls_l(m: u32, n: u32) -> Mac
     ensures { result ≡ Multiply.dmuls_l m n }
 {
-    split(product_of_longs(m, n).cast_unsigned())
+    Mac::from(product_of_longs(m, n).cast_unsigned())
 }
 
 pub fn dmulu_l(m: u32, n: u32) -> Mac
     ensures { result ≡ Multiply.dmulu_l m n }
 {
-    split(n as u64 * m as u64)
+    Mac::from(n as u64 * m as u64)
 }
 
 pub fn mul_l(m: u32, n: u32) -> u32
@@ -72,7 +91,7 @@ fn mac_l_held(a: Mac, product: i64) -> Mac
 {
     let sum = signed_48(a) + product;
     let held = sum.clamp(-0x8000_0000_0000, 0x7fff_ffff_ffff);
-    split(held.cast_unsigned())
+    Mac::from(held.cast_unsigned())
 }
 
 fn mac_w_held(a: Mac, product: i64) -> Mac
@@ -89,7 +108,7 @@ fn mac_w_held(a: Mac, product: i64) -> Mac
 fn summed(a: Mac, product: i64) -> Mac
     ensures { result ≡ Multiply.summed a product }
 {
-    split(joined(a).wrapping_add(product.cast_unsigned()))
+    Mac::from(u64::from(a).wrapping_add(product.cast_unsigned()))
 }
 
 fn product_of_longs(m: u32, n: u32) -> i64
@@ -109,19 +128,4 @@ fn signed_48(a: Mac) -> i64
     ensures { result ≡ signed (2 ^ 47) (Multiply.joined a % 2 ^ 48) }
 {
     numbers::signed_word(a.mach) * 0x1_0000_0000 + a.macl as i64
-}
-
-fn split(x: u64) -> Mac
-    ensures { result ≡ Multiply.split x }
-{
-    Mac {
-        mach: (x / REACH) as u32,
-        macl: (x % REACH) as u32,
-    }
-}
-
-fn joined(a: Mac) -> u64
-    ensures { result ≡ Multiply.joined a }
-{
-    a.mach as u64 * REACH + a.macl as u64
 }
