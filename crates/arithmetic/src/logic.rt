@@ -11,7 +11,7 @@ pub fn and(m: u32, n: u32) -> u32
 pub fn not(m: u32) -> u32
     ensures { result ≡ Logic.complement m }
 {
-    0xffff_ffff - m
+    !m
 }
 
 pub fn or(m: u32, n: u32) -> u32

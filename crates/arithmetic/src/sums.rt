@@ -2,13 +2,12 @@
 ghost use Rattle.std.specs.Prelude.{◌≡◌};
 ghost use Rattle.arithmetic.specs.Sums as Sums;
 
-use numbers::{HALF, REACH, WithT};
-use std::num::{wrapping_add_u32, wrapping_sub_u32};
+use numbers::{REACH, WithT};
 
 pub fn add(m: u32, n: u32) -> u32
     ensures { result ≡ Sums.add m n }
 {
-    wrapping_add_u32(n, m)
+    n.wrapping_add(m)
 }
 
 pub fn addc(m: u32, n: u32, t: u32) -> WithT
@@ -16,7 +15,7 @@ pub fn addc(m: u32, n: u32, t: u32) -> WithT
 {
     let sum = n as u64 + m as u64 + t as u64;
     WithT {
-        value: (sum % REACH) as u32,
+        value: n.wrapping_add(m).wrapping_add(t),
         t: (sum >= REACH) as u32,
     }
 }
@@ -24,9 +23,9 @@ pub fn addc(m: u32, n: u32, t: u32) -> WithT
 pub fn addv(m: u32, n: u32) -> WithT
     ensures { result ≡ Sums.addv m n }
 {
-    let sum = numbers::signed(n, HALF) + numbers::signed(m, HALF);
+    let sum = n.cast_signed() as i64 + m.cast_signed() as i64;
     WithT {
-        value: wrapping_add_u32(n, m),
+        value: n.wrapping_add(m),
         t: numbers::overflows(sum) as u32,
     }
 }
@@ -34,7 +33,7 @@ pub fn addv(m: u32, n: u32) -> WithT
 pub fn dt(n: u32) -> WithT
     ensures { result ≡ Sums.dt n }
 {
-    let value = wrapping_sub_u32(n, 1);
+    let value = n.wrapping_sub(1);
     WithT {
         value,
         t: (value == 0) as u32,
@@ -44,23 +43,19 @@ pub fn dt(n: u32) -> WithT
 pub fn neg(m: u32) -> u32
     ensures { result ≡ Sums.neg m }
 {
-    wrapping_sub_u32(0, m)
+    m.wrapping_neg()
 }
 
 pub fn negc(m: u32, t: u32) -> WithT
     ensures { result ≡ Sums.negc m t }
 {
-    let less = m as u64 + t as u64;
-    WithT {
-        value: ((2 * REACH - less) % REACH) as u32,
-        t: (0 < less) as u32,
-    }
+    subc(m, 0, t)
 }
 
 pub fn sub(m: u32, n: u32) -> u32
     ensures { result ≡ Sums.sub m n }
 {
-    wrapping_sub_u32(n, m)
+    n.wrapping_sub(m)
 }
 
 pub fn subc(m: u32, n: u32, t: u32) -> WithT
@@ -68,7 +63,7 @@ pub fn subc(m: u32, n: u32, t: u32) -> WithT
 {
     let less = m as u64 + t as u64;
     WithT {
-        value: ((n as u64 + 2 * REACH - less) % REACH) as u32,
+        value: n.wrapping_sub(m).wrapping_sub(t),
         t: ((n as u64) < less) as u32,
     }
 }
@@ -76,9 +71,9 @@ pub fn subc(m: u32, n: u32, t: u32) -> WithT
 pub fn subv(m: u32, n: u32) -> WithT
     ensures { result ≡ Sums.subv m n }
 {
-    let difference = numbers::signed(n, HALF) - numbers::signed(m, HALF);
+    let difference = n.cast_signed() as i64 - m.cast_signed() as i64;
     WithT {
-        value: wrapping_sub_u32(n, m),
+        value: n.wrapping_sub(m),
         t: numbers::overflows(difference) as u32,
     }
 }

@@ -1,24 +1,17 @@
 // Extensions and exchanges within registers: document 000, sections 6.23, 6.24, 6.37, 6.65 and 6.70.
 ghost use Rattle.std.specs.Prelude.{◌≡◌};
-ghost use Rattle.numbers.specs.Numbers.{signed, low_long};
 ghost use Rattle.arithmetic.specs.Transfers as Transfers;
 
 pub fn exts_b(m: u32) -> u32
     ensures { result ≡ Transfers.exts_b m }
 {
-    extended(m % 0x100, 0x80)
+    numbers::low_long(numbers::signed_byte(m))
 }
 
 pub fn exts_w(m: u32) -> u32
     ensures { result ≡ Transfers.exts_w m }
 {
-    extended(m % 0x1_0000, 0x8000)
-}
-
-fn extended(m: u32, half: u32) -> u32
-    ensures { result ≡ low_long (signed half m) }
-{
-    numbers::low_long(numbers::signed(m, half))
+    numbers::low_long(numbers::signed_word(m))
 }
 
 pub fn extu_b(m: u32) -> u32

@@ -11,39 +11,27 @@ use instructions::{Control, Flow};
 pub fn branch_if(operation: BranchIf, d: u8, pc: u32, sr: u32) -> Flow
     ensures { (c : Control) (r memory : List ℕ) → Performs (Meaning.BranchIf operation d) (with_pc pc (with_sr sr c)) r memory result (with_pc pc (with_sr sr c)) r memory }
 {
-    let target = addresses::branch(pc, d);
+    let target = addresses::branch::<0x80>(pc, d as u32);
     let t = sr % 2;
     match operation {
-        BranchIf::Bf => jump_if(t == 0, target),
-        BranchIf::BfS => delay_if(t == 0, target),
-        BranchIf::Bt => jump_if(t == 1, target),
-        BranchIf::BtS => delay_if(t == 1, target),
+        BranchIf::Bf => taken_if(t == 0, Flow::Jump(target)),
+        BranchIf::BfS => taken_if(t == 0, Flow::Delay(target)),
+        BranchIf::Bt => taken_if(t == 1, Flow::Jump(target)),
+        BranchIf::BtS => taken_if(t == 1, Flow::Delay(target)),
     }
 }
 
-fn jump_if(test: bool, target: u32) -> Flow
-    ensures { result ≡ (if test then Flow.Jump target else Flow.Next) }
+fn taken_if(test: bool, taken: Flow) -> Flow
+    ensures { result ≡ (if test then taken else Flow.Next) }
 {
-    if test {
-        return Flow::Jump(target);
-    }
-    Flow::Next
-}
-
-fn delay_if(test: bool, target: u32) -> Flow
-    ensures { result ≡ (if test then Flow.Delay target else Flow.Next) }
-{
-    if test {
-        return Flow::Delay(target);
-    }
-    Flow::Next
+    if test { taken } else { Flow::Next }
 }
 
 #[tactic(auto, unfolding(instructions::specs::Execute::execute))]
 pub fn branch(operation: Branch, d: u16, pc: u32, pr: &mut u32) -> Flow
     ensures { (c : Control) (r memory : List ℕ) → Performs (Meaning.Branch operation d) (with_pc pc (with_pr pr.old c)) r memory result (with_pc pc (with_pr pr.new c)) r memory }
 {
-    let target = addresses::long_branch(pc, d);
+    let target = addresses::branch::<0x800>(pc, d as u32);
     match operation {
         Branch::Bra => Flow::Delay(target),
         Branch::Bsr => {

@@ -5,7 +5,6 @@ ghost use Rattle.instructions.specs.State.{with_pr, with_sr};
 use decoder::{Meaning, Return};
 use instructions::{Control, Flow};
 use memory::{Access, Long};
-use std::num::wrapping_add_u32;
 
 #[tactic(auto, unfolding(instructions::specs::Execute::execute))]
 pub fn return_by(operation: Return, sr: &mut u32, pr: u32, r: &mut [u32; 16], memory: &[u8]) -> Flow
@@ -25,10 +24,10 @@ fn from_exception(sr: &mut u32, r: &mut [u32; 16], memory: &[u8]) -> Flow
     let Some(pc) = Long::load(memory, top) else {
         return Flow::Fault;
     };
-    let Some(popped) = Long::load(memory, wrapping_add_u32(top, 4)) else {
+    let Some(popped) = Long::load(memory, top.wrapping_add(4)) else {
         return Flow::Fault;
     };
-    r[15] = wrapping_add_u32(top, 8);
+    r[15] = top.wrapping_add(8);
     *sr = popped & Control::SR_MASK;
     Flow::Delay(pc)
 }

@@ -4,11 +4,8 @@
 ghost use Rattle.std.specs.Prelude.{◌≡◌};
 ghost use Rattle.divide.specs.Divide as Divide;
 
-use numbers::HALF;
-use std::num::{wrapping_add_u32, wrapping_sub_u32};
-
 // M, Q and T.
-#[derive(Clone, Copy)]
+#[derive(Clone, Copy, Debug, PartialEq, Eq)]
 pub struct Bits {
     pub m: u32,
     pub q: u32,
@@ -16,7 +13,7 @@ pub struct Bits {
 }
 
 // Rn's new value, Q and T.
-#[derive(Clone, Copy)]
+#[derive(Clone, Copy, Debug, PartialEq, Eq)]
 pub struct Divided {
     pub value: u32,
     pub q: u32,
@@ -27,9 +24,9 @@ pub fn div0s(m: u32, n: u32) -> Bits
     ensures { result ≡ Divide.div0s m n }
 {
     Bits {
-        m: m / HALF,
-        q: n / HALF,
-        t: (m / HALF != n / HALF) as u32,
+        m: m >> 31,
+        q: n >> 31,
+        t: (m >> 31 != n >> 31) as u32,
     }
 }
 
@@ -47,30 +44,30 @@ pub fn div1(m: u32, n: u32, m_bit: u32, q: u32, t: u32) -> Divided
     let m_is_1 = m_bit == 1;
     // For bits this is `q == 1`. Document 01 asks whether the old Q equals M, and the promise holds for numbers that are no bits, too.
     let old_q = if m_is_1 { q == m_bit } else { q != m_bit };
-    let mut q = n / HALF;
-    let shifted = wrapping_add_u32(n << 1, t); // document 01: "T added"; of a bit, the page's |=
+    let mut q = n >> 31;
+    let shifted = (n << 1).wrapping_add(t); // document 01: "T added"; of a bit, the page's |=
     let value: u32;
     match old_q {
         false => match m_is_1 {
             false => {
-                value = wrapping_sub_u32(shifted, m); // shifted: the page's tmp0
+                value = shifted.wrapping_sub(m); // shifted: the page's tmp0
                 let borrow = (value > shifted) as u32; // borrow, and carry below: its tmp1
                 q = if q == 0 { borrow } else { (borrow == 0) as u32 };
             }
             true => {
-                value = wrapping_add_u32(shifted, m);
+                value = shifted.wrapping_add(m);
                 let carry = (value < shifted) as u32;
                 q = if q == 0 { (carry == 0) as u32 } else { carry };
             }
         },
         true => match m_is_1 {
             false => {
-                value = wrapping_add_u32(shifted, m);
+                value = shifted.wrapping_add(m);
                 let carry = (value < shifted) as u32;
                 q = if q == 0 { carry } else { (carry == 0) as u32 };
             }
             true => {
-                value = wrapping_sub_u32(shifted, m);
+                value = shifted.wrapping_sub(m);
                 let borrow = (value > shifted) as u32;
                 q = if q == 0 { (borrow == 0) as u32 } else { borrow };
             }

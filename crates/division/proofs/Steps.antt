@@ -7,7 +7,6 @@ use native.Mathlib.Omega.{arith}
 use lib.Dec.{eqb, leb, ltb}
 use Rattle.numbers.specs.Numbers.{truth, low32}
 use Rattle.divide.specs.Divide.{div1, flipped}
-use Rattle.instructions.proofs.Kept.{truth_bit}
 
 -- Steps d x c bits answers v q: x stood in Rn, with Q = 0, and d in Rm. After the steps c is 2 to their number, the bits that T brought
 -- make the number bits, the answers that T took the number answers, and v and q are Rn and Q.
@@ -31,6 +30,10 @@ pub record InRange (c bits answers v q : ℕ) : Type 0 where
   pub answers_below : answers < c
   pub long : v < 2 ^ 32
   pub bit : q < 2
+
+truth_bit : (a : Bool) → truth a < 2
+truth_bit true = omega arith
+truth_bit false = omega arith
 
 module _ (d v q b : ℕ) where
   pub div1_t_bit : (div1 d v 0 q b).t < 2

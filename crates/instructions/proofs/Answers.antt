@@ -8,7 +8,6 @@ use Rattle.std.specs.Prelude.{Err, None, Ok, Option, Result, Some, ⊤}
 use Rattle.memory.specs.declared.access.Fault as memory_fault
 use Rattle.memory.specs.Access.{accessible, answered, stored_at, written, Stores}
 use Rattle.decoder.specs.declared.meaning.Size.{Size}
-use Rattle.decoder.specs.declared.meaning.Size.TheVariants.{Long}
 use Rattle.instructions.specs.Shapes.{Effect, after_load, leads, next, storing_and}
 use Rattle.instructions.specs.Promises.{extended, extended_load}
 use Rattle.instructions.specs.State.{State, with_memory}
@@ -25,10 +24,6 @@ passed false a b done = cc
 missed : {A : Type 0} (test : Bool) (a b : A) → cond {A = Result ⊤ memory_fault.Fault} test (Ok tt) (Err (record {})) ≡ Err (record {}) → cond test a b ≡ b
 missed true a b failed = cc
 missed false a b failed = refl
-
-pub load_long : (l : Option ℕ) → l ≡ extended_load Long l
-load_long (Some v) = refl
-load_long None = refl
 
 pub load_value :
     (size : Size) (l : Option ℕ) (v : ℕ) (f : ℕ → Effect) (s : State) → extended_load size l ≡ Some v →

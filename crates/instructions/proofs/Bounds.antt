@@ -15,7 +15,7 @@ use Rattle.arithmetic.specs.Transfers.{swap_b, xtrct}
 use Rattle.shifts.specs.Shifts.{rotl, rotr}
 use Rattle.multiply.specs.Multiply.{split, joined, held, product_long, product_word, dmuls_l, dmulu_l, mulu_w, mac_l, mac_l_held, mac_w, mac_w_held, summed}
 use Rattle.multiply.specs.declared.Mac.{Mac}
-use Rattle.multiply.proofs.Products.{product_below}
+use Rattle.std.proofs.lemmas.Nat.{mul-lt}
 use Rattle.divide.specs.Divide.{div1}
 
 pub low32_below : (x : ℕ) → low32 x < 2 ^ 32
@@ -48,7 +48,7 @@ pub rotr_below : {n : ℕ} → n < 2 ^ 32 → (rotr n).value < 2 ^ 32
 rotr_below below = omega arith
 
 pub mulu_w_below : (m n : ℕ) → mulu_w m n < 2 ^ 32
-mulu_w_below m n = product_below 16 (mod-lt n (pow_pos 16)) (mod-lt m (pow_pos 16))
+mulu_w_below m n = mul-lt (n % 2 ^ 16) (m % 2 ^ 16) (2 ^ 16) (2 ^ 16) (mod-lt n (pow_pos 16)) (mod-lt m (pow_pos 16))
 
 pub div1_below : (m n m_bit q t : ℕ) → (div1 m n m_bit q t).value < 2 ^ 32
 div1_below m n m_bit q t = either (eqb q m_bit) _ _
@@ -73,7 +73,7 @@ pub dmuls_l_below : (m n : ℕ) → MacBelow (dmuls_l m n)
 dmuls_l_below m n = split_below (low_bits_below 64 (product_long m n))
 
 pub dmulu_l_below : {m n : ℕ} → m < 2 ^ 32 → n < 2 ^ 32 → MacBelow (dmulu_l m n)
-dmulu_l_below f g = split_below (product_below 32 g f)
+dmulu_l_below {m} {n} f g = split_below (mul-lt n m (2 ^ 32) (2 ^ 32) g f)
 
 summed_below : (a : Mac) (product : ℤ) → MacBelow (summed a product)
 summed_below a product = split_below (mod-lt _ (pow_pos 64))

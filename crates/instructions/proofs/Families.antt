@@ -1,25 +1,19 @@
 -- The clauses of a family of instructions, as one law over what they differ in: the register, the size or the addressing mode.
 -- Assumes nothing.
 use mathlib.Core.Path.{◌≡◌, refl}
-use Prim.Native.Nat.{ℕ, ◌+◌}
+use Prim.Native.Nat.{ℕ}
 use native.Mathlib.Nat.{mul-one}
-use Rattle.std.specs.Prelude.{None}
-use Rattle.numbers.specs.Numbers.{low32}
 use Rattle.decoder.specs.declared.meaning.Address.{Address}
 use Rattle.decoder.specs.declared.meaning.Address.TheVariants.{Indirect, Indexed, Displacement, GbrDisplacement}
 use Rattle.decoder.specs.declared.meaning.ControlRegister.{ControlRegister}
 use Rattle.decoder.specs.declared.meaning.ControlRegister.TheVariants.{Gbr, Sr, Vbr, Mach, Macl, Pr}
-use Rattle.decoder.specs.declared.meaning.Meaning.TheVariants.{ImmediateByte as MeansImmediateByte, MultiplyAdd as MeansMultiplyAdd, Load, LoadIncrement, Store, StoreDecrement, LoadControl, LoadControlLong, StoreControl, StoreControlLong}
-use Rattle.decoder.specs.declared.meaning.ImmediateByte.{ImmediateByte}
-use Rattle.decoder.specs.declared.meaning.ImmediateByte.TheVariants.{AndB, OrB, TstB, XorB}
+use Rattle.decoder.specs.declared.meaning.Meaning.TheVariants.{MultiplyAdd as MeansMultiplyAdd, Load, LoadIncrement, Store, StoreDecrement, LoadControl, LoadControlLong, StoreControl, StoreControlLong}
 use Rattle.decoder.specs.declared.meaning.MultiplyAdd.{MultiplyAdd}
 use Rattle.decoder.specs.declared.meaning.MultiplyAdd.TheVariants.{MacL, MacW}
 use Rattle.decoder.specs.declared.meaning.Size.{Size}
 use Rattle.decoder.specs.declared.meaning.Size.TheVariants.{Byte, Word, Long}
-use Rattle.memory.specs.Access.{loaded}
-use Rattle.instructions.specs.declared.control.Flow.TheVariants.{Fault}
 use Rattle.instructions.specs.Execute.{execute}
-use Rattle.instructions.specs.Shapes.{leads, next, gives, gives_mac, loading, storing, storing_and, incremented, minus}
+use Rattle.instructions.specs.Shapes.{next, gives, gives_mac, loading, storing, storing_and, incremented, minus}
 use Rattle.instructions.specs.Promises.{accumulated, bytes, control_register, effective, extended, operand_bytes, with_control_register}
 use Rattle.instructions.specs.State.{State, reg, with_reg, changed, s_bit}
 
@@ -130,13 +124,3 @@ pub multiply_add :
 unfolding execute
 multiply_add MacL m n pc s = refl
 multiply_add MacW m n pc s = refl
-
--- AND.B, OR.B, TST.B and XOR.B where the byte at @(R0,GBR) cannot be read.
-pub byte_failed :
-    (x : ImmediateByte) (i pc : ℕ) (s : State) → loaded 1 s.memory (low32 (s.control.gbr + reg 0 s)) ≡ None →
-    execute (MeansImmediateByte x i) pc s ≡ leads Fault s
-unfolding execute
-byte_failed AndB i pc s failed = rw failed
-byte_failed OrB i pc s failed = rw failed
-byte_failed TstB i pc s failed = rw failed
-byte_failed XorB i pc s failed = rw failed

@@ -4,6 +4,5 @@ pub mod Cases
 pub mod Determined
 pub mod Effects
 pub mod Families
-pub mod Kept
 pub mod Ranges
 pub mod Status

@@ -4,6 +4,7 @@ ghost use Rattle.instructions.specs.Promises as Promises;
 ghost use Rattle.instructions.specs.State as State;
 
 use decoder::ControlRegister;
+use divide::Bits;
 
 // The control registers (document 000, section 2.2) and system registers (2.3).
 #[derive(Clone, Copy, Debug, PartialEq, Eq)]
@@ -57,10 +58,10 @@ pub fn with_t(sr: u32, t: u32) -> u32
     sr / 2 * 2 + t % 2
 }
 
-pub fn with_mqt(sr: u32, m: u32, q: u32, t: u32) -> u32
-    ensures { result ≡ State.sr_with_mqt m q t sr }
+pub fn with_mqt(sr: u32, bits: Bits) -> u32
+    ensures { result ≡ State.sr_with_mqt bits.m bits.q bits.t sr }
 {
-    m % 2 * 512 + q % 2 * 256 + sr / 2 % 128 * 2 + t % 2
+    bits.m % 2 * 512 + bits.q % 2 * 256 + sr / 2 % 128 * 2 + bits.t % 2
 }
 
 // Where an instruction leads. It does not know the PC's next value or the mode: what settles a step does.

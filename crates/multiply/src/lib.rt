@@ -6,33 +6,49 @@ ghost use Rattle.std.specs.Int.Signed.{mag};
 ghost use Rattle.numbers.specs.Numbers.{signed};
 ghost use Rattle.multiply.specs.Multiply as Multiply;
 
-use numbers::{HALF, REACH};
-use std::num::wrapping_add_u64;
+use numbers::REACH;
 
-const HALF_WORD: u32 = 0x8000;
-
-#[derive(Clone, Copy)]
+#[derive(Clone, Copy, Debug, PartialEq, Eq)]
 pub struct Mac {
     pub mach: u32,
     pub macl: u32,
 }
 
+impl From<u64> for Mac {
+    ghost from_gives = { λ x a. a ≡ Multiply.split x };
+
+    fn from(x: u64) -> Mac {
+        Mac {
+            mach: (x / REACH) as u32,
+            macl: (x % REACH) as u32,
+        }
+    }
+}
+
+impl From<Mac> for u64 {
+    ghost from_gives = { λ a x. x ≡ Multiply.joined a };
+
+    fn from(a: Mac) -> u64 {
+        a.mach as u64 * REACH + a.macl as u64
+    }
+}
+
 pub fn dmuls_l(m: u32, n: u32) -> Mac
     ensures { result ≡ Multiply.dmuls_l m n }
 {
-    split(numbers::low_quad(product_of_longs(m, n)))
+    Mac::from(product_of_longs(m, n).cast_unsigned())
 }
 
 pub fn dmulu_l(m: u32, n: u32) -> Mac
     ensures { result ≡ Multiply.dmulu_l m n }
 {
-    split(n as u64 * m as u64)
+    Mac::from(n as u64 * m as u64)
 }
 
 pub fn mul_l(m: u32, n: u32) -> u32
     ensures { result ≡ Multiply.mul_l m n }
 {
-    (n as u64 * m as u64 % REACH) as u32
+    n.wrapping_mul(m)
 }
 
 pub fn muls_w(m: u32, n: u32) -> u32
@@ -52,9 +68,10 @@ pub fn mac_l(a: Mac, s: u32, m: u32, n: u32) -> Mac
 {
     let product = product_of_longs(m, n);
     if s == 1 {
-        return mac_l_held(a, product);
+        mac_l_held(a, product)
+    } else {
+        summed(a, product)
     }
-    summed(a, product)
 }
 
 pub fn mac_w(a: Mac, s: u32, m: u32, n: u32) -> Mac
@@ -62,81 +79,53 @@ pub fn mac_w(a: Mac, s: u32, m: u32, n: u32) -> Mac
 {
     let product = product_of_words(m, n);
     if s == 1 {
-        return mac_w_held(a, product);
+        mac_w_held(a, product)
+    } else {
+        summed(a, product)
     }
-    summed(a, product)
 }
 
 fn mac_l_held(a: Mac, product: i64) -> Mac
     requires { mag product < 2 ^ 62 + 1 }
     ensures { result ≡ Multiply.mac_l_held a product }
 {
-    let sum = signed_48(joined(a)) + product;
-    split(numbers::low_quad(held(-0x8000_0000_0000, 0x7fff_ffff_ffff, sum)))
+    let sum = signed_48(a) + product;
+    let held = sum.clamp(-0x8000_0000_0000, 0x7fff_ffff_ffff);
+    Mac::from(held.cast_unsigned())
 }
 
 fn mac_w_held(a: Mac, product: i64) -> Mac
     requires { mag product < 2 ^ 62 + 1 }
     ensures { result ≡ Multiply.mac_w_held a product }
 {
-    let sum = numbers::signed(a.macl, HALF) + product;
+    let sum = a.macl.cast_signed() as i64 + product;
     Mac {
         mach: a.mach,
-        macl: numbers::low_long(held(-0x8000_0000, 0x7fff_ffff, sum)),
+        macl: numbers::low_long(sum.clamp(-0x8000_0000, 0x7fff_ffff)),
     }
 }
 
 fn summed(a: Mac, product: i64) -> Mac
     ensures { result ≡ Multiply.summed a product }
 {
-    split(wrapping_add_u64(joined(a), numbers::low_quad(product)))
+    Mac::from(u64::from(a).wrapping_add(product.cast_unsigned()))
 }
 
 fn product_of_longs(m: u32, n: u32) -> i64
     ensures { result ≡ Multiply.product_long m n }
 {
-    numbers::signed(n, HALF) * numbers::signed(m, HALF)
+    n.cast_signed() as i64 * m.cast_signed() as i64
 }
 
 fn product_of_words(m: u32, n: u32) -> i64
     ensures { result ≡ Multiply.product_word m n }
 {
-    numbers::signed(n % 0x1_0000, HALF_WORD) * numbers::signed(m % 0x1_0000, HALF_WORD)
+    numbers::signed_word(n) * numbers::signed_word(m)
 }
 
-fn signed_48(x: u64) -> i64
-    ensures { result ≡ signed (2 ^ 47) (x % 2 ^ 48) }
+// Bits 47 to 0: the low word of MACH, signed, and MACL.
+fn signed_48(a: Mac) -> i64
+    ensures { result ≡ signed (2 ^ 47) (Multiply.joined a % 2 ^ 48) }
 {
-    let low = x % 0x1_0000_0000_0000;
-    if low < 0x8000_0000_0000 {
-        return low as i64;
-    }
-    low as i64 - 0x1_0000_0000_0000
-}
-
-fn held(least: i64, most: i64, z: i64) -> i64
-    ensures { result ≡ Multiply.held least most z }
-{
-    if z < least {
-        return least;
-    }
-    if z > most {
-        return most;
-    }
-    z
-}
-
-fn split(x: u64) -> Mac
-    ensures { result ≡ Multiply.split x }
-{
-    Mac {
-        mach: (x / REACH) as u32,
-        macl: (x % REACH) as u32,
-    }
-}
-
-fn joined(a: Mac) -> u64
-    ensures { result ≡ Multiply.joined a }
-{
-    a.mach as u64 * REACH + a.macl as u64
+    numbers::signed_word(a.mach) * 0x1_0000_0000 + a.macl as i64
 }

@@ -9,6 +9,7 @@ use decoder::{
     Compare, CompareZero, Divide, Immediate, ImmediateR0, Meaning, Multiply, NoOperand,
     OneRegister, TwoRegisters,
 };
+use divide::Bits;
 use instructions::{Control, Flow, with_mqt, with_t};
 
 #[tactic(auto, unfolding(instructions::specs::Execute::execute))]
@@ -26,8 +27,7 @@ pub fn no_operand(operation: NoOperand, sr: &mut u32, mach: &mut u32, macl: &mut
             Flow::Next
         }
         NoOperand::Div0u => {
-            let b = divide::div0u();
-            *sr = with_mqt(*sr, b.m, b.q, b.t);
+            *sr = with_mqt(*sr, divide::div0u());
             Flow::Next
         }
         NoOperand::Nop => Flow::Next,
@@ -81,15 +81,17 @@ pub fn divide(operation: Divide, m: u8, n: u8, sr: &mut u32, r: &mut [u32; 16])
     let into = (n % 16) as usize;
     let before = *sr;
     match operation {
-        Divide::Div0s => {
-            let b = divide::div0s(r[from], r[into]);
-            *sr = with_mqt(before, b.m, b.q, b.t);
-        }
+        Divide::Div0s => *sr = with_mqt(before, divide::div0s(r[from], r[into])),
         Divide::Div1 => {
             let m_bit = before / 512 % 2;
             let d = divide::div1(r[from], r[into], m_bit, before / 256 % 2, before % 2);
             r[into] = d.value;
-            *sr = with_mqt(before, m_bit, d.q, d.t);
+            let bits = Bits {
+                m: m_bit,
+                q: d.q,
+                t: d.t,
+            };
+            *sr = with_mqt(before, bits);
         }
     }
 }

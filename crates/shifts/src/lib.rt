@@ -4,14 +4,14 @@
 ghost use Rattle.std.specs.Prelude.{◌≡◌};
 ghost use Rattle.shifts.specs.Shifts as Shifts;
 
-use numbers::{HALF, REACH, WithT};
+use numbers::WithT;
 
 pub fn rotcl(n: u32, t: u32) -> WithT
     ensures { result ≡ Shifts.rotcl n t }
 {
     WithT {
-        value: ((n as u64 * 2 + t as u64) % REACH) as u32,
-        t: n / HALF,
+        value: (n << 1).wrapping_add(t),
+        t: n >> 31,
     }
 }
 
@@ -19,28 +19,28 @@ pub fn rotcr(n: u32, t: u32) -> WithT
     ensures { result ≡ Shifts.rotcr n t }
 {
     WithT {
-        value: ((n as u64 / 2 + t as u64 * HALF as u64) % REACH) as u32,
+        value: (n >> 1).wrapping_add(t << 31),
         t: n % 2,
     }
 }
 
+#[tactic(auto, using(crate::proofs::Rotations::up))]
 pub fn rotl(n: u32) -> WithT
     ensures { result ≡ Shifts.rotl n }
 {
-    let top = n / HALF;
     WithT {
-        value: (n as u64 * 2 % REACH) as u32 + top,
-        t: top,
+        value: n.rotate_left(1),
+        t: n >> 31,
     }
 }
 
+#[tactic(auto, using(crate::proofs::Rotations::down))]
 pub fn rotr(n: u32) -> WithT
     ensures { result ≡ Shifts.rotr n }
 {
-    let bottom = n % 2;
     WithT {
-        value: n / 2 + bottom * HALF,
-        t: bottom,
+        value: n.rotate_right(1),
+        t: n % 2,
     }
 }
 
@@ -49,17 +49,16 @@ pub fn shll(n: u32) -> WithT
     ensures { result ≡ Shifts.shll n }
 {
     WithT {
-        value: (n as u64 * 2 % REACH) as u32,
-        t: n / HALF,
+        value: n << 1,
+        t: n >> 31,
     }
 }
 
 pub fn shar(n: u32) -> WithT
     ensures { result ≡ Shifts.shar n }
 {
-    let halved = numbers::signed(n, HALF) >> 1;
     WithT {
-        value: numbers::low_long(halved),
+        value: (n.cast_signed() >> 1).cast_unsigned(),
         t: n % 2,
     }
 }
@@ -68,7 +67,7 @@ pub fn shlr(n: u32) -> WithT
     ensures { result ≡ Shifts.shlr n }
 {
     WithT {
-        value: n / 2,
+        value: n >> 1,
         t: n % 2,
     }
 }
@@ -76,35 +75,35 @@ pub fn shlr(n: u32) -> WithT
 pub fn shll2(n: u32) -> u32
     ensures { result ≡ Shifts.shll2 n }
 {
-    (n as u64 * 4 % REACH) as u32
+    n << 2
 }
 
 pub fn shll8(n: u32) -> u32
     ensures { result ≡ Shifts.shll8 n }
 {
-    (n as u64 * 0x100 % REACH) as u32
+    n << 8
 }
 
 pub fn shll16(n: u32) -> u32
     ensures { result ≡ Shifts.shll16 n }
 {
-    (n as u64 * 0x1_0000 % REACH) as u32
+    n << 16
 }
 
 pub fn shlr2(n: u32) -> u32
     ensures { result ≡ Shifts.shlr2 n }
 {
-    n / 4
+    n >> 2
 }
 
 pub fn shlr8(n: u32) -> u32
     ensures { result ≡ Shifts.shlr8 n }
 {
-    n / 0x100
+    n >> 8
 }
 
 pub fn shlr16(n: u32) -> u32
     ensures { result ≡ Shifts.shlr16 n }
 {
-    n / 0x1_0000
+    n >> 16
 }
