@@ -6,7 +6,6 @@ ghost use Rattle.machine.specs.Promises.{Admits, Advances, Settles};
 use crate::{Mode, exceptions};
 use instructions::{Control, Flow};
 use memory::{Access, Word};
-use std::num::wrapping_add_u32;
 
 // Of a machine that runs, in a slot or not.
 pub fn advance(mode: Mode, control: &mut Control, r: &mut [u32; 16], memory: &mut [u8]) -> Mode
@@ -34,7 +33,7 @@ fn settle(
     ensures { Settles flow mode control.old r.old memory.old result control.new r.new memory.new }
 {
     let at = control.pc;
-    let next = mode.target_or(wrapping_add_u32(at, 2));
+    let next = mode.target_or(at.wrapping_add(2));
     match flow {
         Flow::Next => {
             control.pc = next;

@@ -8,7 +8,6 @@ use arithmetic::transfers;
 use decoder::{Address, Size};
 use instructions::Control;
 use memory::{Access, Byte, Fault, Long, Word};
-use std::num::wrapping_add_u32;
 
 pub fn bytes(size: Size) -> u32
     ensures { result ≡ Promises.bytes size }
@@ -25,9 +24,9 @@ pub fn effective(size: Size, address: Address, gbr: u32, r: &[u32; 16]) -> u32
 {
     match address {
         Address::Indirect(n) => r[(n % 16) as usize],
-        Address::Indexed(n) => wrapping_add_u32(r[0], r[(n % 16) as usize]),
-        Address::Displacement(d, n) => wrapping_add_u32(r[(n % 16) as usize], scaled(size, d)),
-        Address::GbrDisplacement(d) => wrapping_add_u32(gbr, scaled(size, d)),
+        Address::Indexed(n) => r[0].wrapping_add(r[(n % 16) as usize]),
+        Address::Displacement(d, n) => r[(n % 16) as usize].wrapping_add(scaled(size, d)),
+        Address::GbrDisplacement(d) => gbr.wrapping_add(scaled(size, d)),
     }
 }
 

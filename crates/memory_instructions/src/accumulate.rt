@@ -9,7 +9,6 @@ use decoder::{Meaning, MultiplyAdd};
 use instructions::{Control, Flow};
 use memory::{Access, Long, Word};
 use multiply::Mac;
-use std::num::wrapping_add_u32;
 
 #[tactic(auto, unfolding(instructions::specs::Execute::execute))]
 pub fn multiply_add(
@@ -31,12 +30,12 @@ pub fn multiply_add(
     let Some(b) = operand(operation, memory, first) else {
         return Flow::Fault;
     };
-    r[into] = wrapping_add_u32(first, k);
+    r[into] = first.wrapping_add(k);
     let Some(a) = operand(operation, memory, r[from]) else {
         r[into] = first;
         return Flow::Fault;
     };
-    r[from] = wrapping_add_u32(r[from], k);
+    r[from] = r[from].wrapping_add(k);
     let sum = accumulated(operation, *mach, *macl, sr / 2 % 2, a, b);
     *mach = sum.mach;
     *macl = sum.macl;

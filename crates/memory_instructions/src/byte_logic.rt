@@ -6,7 +6,6 @@ use arithmetic::logic;
 use decoder::{ImmediateByte, Meaning};
 use instructions::{Control, Flow, with_t};
 use memory::{Access, Byte};
-use std::num::wrapping_add_u32;
 
 #[tactic(auto, unfolding(instructions::specs::Execute::execute))]
 pub fn immediate_byte(
@@ -19,7 +18,7 @@ pub fn immediate_byte(
 ) -> Flow
     ensures { (c : Control) → Performs (Meaning.ImmediateByte operation i) (with_sr sr.old (with_gbr gbr c)) r.now memory.old result (with_sr sr.new (with_gbr gbr c)) r.now memory.new }
 {
-    let at = wrapping_add_u32(gbr, r[0]);
+    let at = gbr.wrapping_add(r[0]);
     let Some(v) = Byte::load(memory, at) else {
         return Flow::Fault;
     };

@@ -7,7 +7,6 @@ use arithmetic::{addresses, transfers};
 use decoder::{Address, Meaning, Relative, Size};
 use instructions::{Control, Flow};
 use memory::{Access, Long, Word};
-use std::num::wrapping_add_u32;
 
 pub fn load(size: Size, address: Address, n: u8, gbr: u32, r: &mut [u32; 16], memory: &[u8]) -> Flow
     ensures { (c : Control) → Performs (Meaning.Load size address n) (with_gbr gbr c) r.old memory.now result (with_gbr gbr c) r.new memory.now }
@@ -29,7 +28,7 @@ pub fn load_increment(size: Size, m: u8, n: u8, r: &mut [u32; 16], memory: &[u8]
     let Some(v) = accesses::load(size, memory, at) else {
         return Flow::Fault;
     };
-    r[from] = wrapping_add_u32(at, accesses::bytes(size));
+    r[from] = at.wrapping_add(accesses::bytes(size));
     r[(n % 16) as usize] = v;
     Flow::Next
 }

@@ -6,7 +6,6 @@ use arithmetic::sums;
 use decoder::{ControlRegister, Meaning};
 use instructions::{Control, Flow};
 use memory::{Access, Long};
-use std::num::wrapping_add_u32;
 
 #[tactic(auto, unfolding(instructions::specs::Execute::execute))]
 pub fn load_control(register: ControlRegister, m: u8, control: &mut Control, r: &[u32; 16])
@@ -30,7 +29,7 @@ pub fn load_control_long(
     let Some(v) = Long::load(memory, at) else {
         return Flow::Fault;
     };
-    r[from] = wrapping_add_u32(at, 4);
+    r[from] = at.wrapping_add(4);
     control.set_register(register, v);
     Flow::Next
 }

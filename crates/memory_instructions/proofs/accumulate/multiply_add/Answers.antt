@@ -20,13 +20,10 @@ returns-in_default-operand c =
     λ k.
     let a = c.args in
     let s = state a.r.now (with_sr a.sr (with_mac a.mach.now a.macl.now k)) a.memory.now in
-    let kb = c.operand_bytes-k.ensures in
+    let faulted = rw (c.in_default-operand.is, c.operand_bytes-k.ensures) at c.operand-2.ensures in
     rw (
       multiply_add a.operation a.m a.n (following s.control.pc) s,
       met c.operand.ensures c.in-Some.is,
-      sym kb,
-      sym c.wrapping_add_u32.ensures.value,
-      kb,
-      met c.operand-2.ensures c.in_default-operand.is,
+      sym faulted,
     )
-    (ap (λ x. leads Fault (state x s.control a.memory.now)) (set_back a.r.now (a.n % 16) c.wrapping_add_u32.result))
+    (ap (λ x. leads Fault (state x s.control a.memory.now)) (set_back a.r.now (a.n % 16) _))
