@@ -28,7 +28,7 @@ module _ (memory buffer : List ℕ) where
   short = ltb (length buffer) (length (exported memory))
 
   pub length_refuses : {k : ℕ} → k ≡ refused_length (length memory) → (k ≡ 0 → ⊥) → k ≡ refused_export memory buffer
-  length_refuses e some = e ∙ sym (same_before (length_tests (length memory)) (test 16 short ∷ []) (λ none. some (e ∙ none)))
+  length_refuses e given = e ∙ sym (same_before (length_tests (length memory)) (test 16 short ∷ []) (λ none_given. given (e ∙ none_given)))
 
   pub length_accepted : refused_export memory buffer ≡ 0 → refused_length (length memory) ≡ 0
   length_accepted e = none_before (length_tests (length memory)) (test 16 short ∷ []) e
@@ -64,9 +64,9 @@ module _ (memory buffer : List ℕ) where
   -- A text that was written fits.
   pub text_fits : (answer : Exported) (after : List ℕ) → Exports memory buffer answer after → refusal_number answer.refusal ≡ 0 → answer.length ≤ length buffer
   text_fits answer after done accepted =
-      let none = sym done.refuses ∙ accepted in
-      let fits : short ≡ false = go short (sym (room_decides (length_accepted none)) ∙ none) in
-      rw (done.counts, none) (ltb-false (length buffer) (length (exported memory)) fits)
+      let written = sym done.refuses ∙ accepted in
+      let fits : short ≡ false = go short (sym (room_decides (length_accepted written)) ∙ written) in
+      rw (done.counts, written) (ltb-false (length buffer) (length (exported memory)) fits)
     where
       go : (t : Bool) → ◌≡◌ {A = ℕ} (cond t 16 0) 0 → t ≡ false
       go true e = cc
@@ -75,9 +75,9 @@ module _ (memory buffer : List ℕ) where
   pub refused_exports :
       (why : Refusal) → refusal_number why ≡ refused_export memory buffer → (refusal_number why ≡ 0 → ⊥) →
       Exports memory buffer (record { refusal = why; length = 0 }) buffer
-  refused_exports why e some =
+  refused_exports why e given =
       let text = exported memory in
-      let no : eqb (refused_export memory buffer) 0 ≡ false = ne_eqb _ _ (λ none. some (e ∙ none)) in
+      let no : eqb (refused_export memory buffer) 0 ≡ false = ne_eqb _ _ (λ none_given. given (e ∙ none_given)) in
       record {
         refuses = e;
         counts = sym (ap (λ (t : Bool). cond t (length text) 0) no);

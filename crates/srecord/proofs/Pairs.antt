@@ -1,7 +1,6 @@
 -- Laws of bytes read from pairs of digits.
 -- Assumes nothing.
-use Rattle.std.proofs.Common.{◌≡◌, ℕ, zero, suc, ◌+◌, ◌*◌, ◌/◌, ◌%◌, ◌^◌, ◌<◌, ◌≤◌, Bool, true, false, ◌&&◌, ltb, List, [], ◌∷◌, length, get_or, drop, sym, refl, ap, ◌∙◌, not-suc-le-zero, pow-suc, add-one, arith, drop-cons, ltb-false, ltb-true}
-use mathlib.Core.Option.{Option, none, some}
+use Rattle.std.proofs.Common.{◌≡◌, ℕ, zero, suc, ◌+◌, ◌*◌, ◌/◌, ◌%◌, ◌^◌, ◌<◌, ◌≤◌, Bool, true, false, ◌&&◌, ltb, List, [], ◌∷◌, length, get_or, drop, sym, refl, ap, ◌∙◌, not-suc-le-zero, pow-suc, add-one, arith, drop-cons, ltb-false, ltb-true, Option, None, Some}
 use native.Mathlib.Nat.{pow-le-pow_right}
 use lib.ListN.{get_or-eq_default}
 use lib.Seq.{drop-length}
@@ -18,7 +17,7 @@ use Rattle.srecord.specs.Promises.{ByteAt, pair_at, total_of}
 use Rattle.srecord.specs.declared.records.Total.{Total}
 use Rattle.srecord.specs.declared.records.Total.TheVariants as total
 
-pub never : {A : Type 0} {a : A} → none ≡ some a → ⊥
+pub never : {A : Type 0} {a : A} → None ≡ Some a → ⊥
 never e = let z : ◌≡◌ {A = ℕ} 0 1 = cc in omega arith
 
 -- A pair's byte, by its two digits.
@@ -39,19 +38,19 @@ of_two a b = go (digit_value EitherCase a) (digit_value EitherCase b)
 -- A pair that is read, in front of bytes that are.
 module _ (h l : ℕ) (rest bytes : List ℕ) where
   taken_apart :
-      bytes_of (h ∷ l ∷ rest) ≡ some bytes →
-      (b : ℕ) × (more : List ℕ) × (bytes ≡ b ∷ more) × (value EitherCase (h ∷ l ∷ []) ≡ Number b) × (bytes_of rest ≡ some more)
+      bytes_of (h ∷ l ∷ rest) ≡ Some bytes →
+      (b : ℕ) × (more : List ℕ) × (bytes ≡ b ∷ more) × (value EitherCase (h ∷ l ∷ []) ≡ Number b) × (bytes_of rest ≡ Some more)
   unfolding bytes_of
   taken_apart = go (value EitherCase (h ∷ l ∷ [])) (bytes_of rest)
     where
       go :
-          (r : Read) (o : Option (List ℕ)) → before r o ≡ some bytes →
-          (b : ℕ) × (more : List ℕ) × (bytes ≡ b ∷ more) × (r ≡ Number b) × (o ≡ some more)
-      go (Number b) (some more) e = (b, more, cc, refl, refl)
-      go (Number b) none e = absurd (never e)
+          (r : Read) (o : Option (List ℕ)) → before r o ≡ Some bytes →
+          (b : ℕ) × (more : List ℕ) × (bytes ≡ b ∷ more) × (r ≡ Number b) × (o ≡ Some more)
+      go (Number b) (Some more) e = (b, more, cc, refl, refl)
+      go (Number b) None e = absurd (never e)
       go NotHex o e = absurd (never e)
 
-pub twice_as_long : (digits bytes : List ℕ) → bytes_of digits ≡ some bytes → length digits ≡ 2 * length bytes
+pub twice_as_long : (digits bytes : List ℕ) → bytes_of digits ≡ Some bytes → length digits ≡ 2 * length bytes
 unfolding bytes_of
 twice_as_long [] bytes e = let same : bytes ≡ [] = cc in rw same
 twice_as_long (a ∷ []) bytes e = absurd (never e)
@@ -60,7 +59,7 @@ twice_as_long (a ∷ b ∷ rest) bytes e =
     rw t.2 (omega (arith, twice_as_long rest t.1 t.4))
 
 pub pair_of :
-    (digits bytes : List ℕ) → bytes_of digits ≡ some bytes → (i : ℕ) → i < length bytes → pair_at digits i ≡ Number (get_or bytes i 0)
+    (digits bytes : List ℕ) → bytes_of digits ≡ Some bytes → (i : ℕ) → i < length bytes → pair_at digits i ≡ Number (get_or bytes i 0)
 unfolding bytes_of
 pair_of [] bytes e i inside = let same : bytes ≡ [] = cc in absurd (not-suc-le-zero (rw same at inside))
 pair_of (a ∷ []) bytes e i inside = absurd (never e)
@@ -100,7 +99,7 @@ module _ (a b : ℕ) where
       let small = pair_small n e in
       omega (arith, v.4, high v.0 v.2, low v.1 v.3)
 
-pub bytes_small : (digits bytes : List ℕ) → bytes_of digits ≡ some bytes → Bytes bytes
+pub bytes_small : (digits bytes : List ℕ) → bytes_of digits ≡ Some bytes → Bytes bytes
 bytes_small digits bytes e i = go (ltb i (length bytes)) refl
   where
     go : (t : Bool) → ltb i (length bytes) ≡ t → get_or bytes i 0 < 256
@@ -109,13 +108,13 @@ bytes_small digits bytes e i = go (ltb i (length bytes)) refl
 
 -- The sum over what was read, with what is left.
 abbrev pub with_rest : Bool → ℕ → Option (List ℕ) → Total
-with_rest good s none = total.NotHex
-with_rest false s (some bytes) = total.NotHex
-with_rest true s (some bytes) = total.Sum ((s + sum bytes) % 256)
+with_rest good s None = total.NotHex
+with_rest false s (Some bytes) = total.NotHex
+with_rest true s (Some bytes) = total.Sum ((s + sum bytes) % 256)
 
 pub from_zero : (o : Option (List ℕ)) → with_rest true 0 o ≡ total_of o
-from_zero none = refl
-from_zero (some bytes) = ap total.Sum (omega arith)
+from_zero None = refl
+from_zero (Some bytes) = ap total.Sum (omega arith)
 
 -- Behind the last digit.
 module _ (digits : List ℕ) (s i : ℕ) (good : Bool) (done : 2 * i ≡ length digits) where
@@ -143,24 +142,24 @@ one_pair a b rest {h} {l} high low good s =
     go :
         (r t : Read) (o : Option (List ℕ)) (good : Bool) → ((d : ℕ) → r ≡ Number d → h ≡ d) → ((d : ℕ) → t ≡ Number d → l ≡ d) →
         with_rest ((good && is_number r) && is_number t) ((s + (h * 16 + l)) % 2 ^ 32) o ≡ with_rest good s (before (joined r t) o)
-    go (Number x) (Number y) (some bytes) true p q =
+    go (Number x) (Number y) (Some bytes) true p q =
         let hx = p x refl in let ly = q y refl in rw (hx, ly) (ap total.Sum (omega arith))
-    go (Number x) (Number y) (some bytes) false p q = refl
-    go (Number x) (Number y) none good p q = refl
-    go (Number x) NotHex (some bytes) true p q = refl
-    go (Number x) NotHex (some bytes) false p q = refl
-    go (Number x) NotHex none good p q = refl
-    go NotHex t (some bytes) true p q = refl
-    go NotHex t (some bytes) false p q = refl
-    go NotHex t none good p q = refl
+    go (Number x) (Number y) (Some bytes) false p q = refl
+    go (Number x) (Number y) None good p q = refl
+    go (Number x) NotHex (Some bytes) true p q = refl
+    go (Number x) NotHex (Some bytes) false p q = refl
+    go (Number x) NotHex None good p q = refl
+    go NotHex t (Some bytes) true p q = refl
+    go NotHex t (Some bytes) false p q = refl
+    go NotHex t None good p q = refl
 
 -- An odd number of digits makes no bytes.
 pub odd : (digits : List ℕ) → (length digits ≡ 2 * (length digits / 2) → ⊥) → total.NotHex ≡ total_of (bytes_of digits)
 odd digits uneven = go (bytes_of digits) refl
   where
     go : (o : Option (List ℕ)) → bytes_of digits ≡ o → total.NotHex ≡ total_of o
-    go none e = refl
-    go (some bytes) e = absurd (uneven (omega (arith, twice_as_long digits bytes e)))
+    go None e = refl
+    go (Some bytes) e = absurd (uneven (omega (arith, twice_as_long digits bytes e)))
 
 -- Two digits taken off.
 pub two_off :
@@ -172,7 +171,7 @@ two_off digits i inside =
     rw (drop-cons digits (2 * i) 0 (omega arith), first, second, drop-cons digits (suc (2 * i)) 0 (omega arith))
 
 -- A number read byte by byte.
-pub none_yet : (digits : List ℕ) (at : ℕ) (bytes : List ℕ) → bytes_of digits ≡ some bytes → 0 ≡ value_at 0 bytes at
+pub none_yet : (digits : List ℕ) (at : ℕ) (bytes : List ℕ) → bytes_of digits ≡ Some bytes → 0 ≡ value_at 0 bytes at
 unfolding value_at
 none_yet digits at bytes e = refl
 
@@ -186,7 +185,7 @@ power_more n b i small byte = rw (add-one i, pow-suc 256 i) (omega arith)
 
 pub byte_more :
     (digits : List ℕ) (at i n b : ℕ) → 2 * (at + i) + 1 < length digits → ByteAt digits (at + i) b →
-    ((bytes : List ℕ) → bytes_of digits ≡ some bytes → n ≡ value_at i bytes at) → (bytes : List ℕ) → bytes_of digits ≡ some bytes →
+    ((bytes : List ℕ) → bytes_of digits ≡ Some bytes → n ≡ value_at i bytes at) → (bytes : List ℕ) → bytes_of digits ≡ Some bytes →
     n * 256 + b ≡ value_at (i + 1) bytes at
 unfolding value_at
 byte_more digits at i n b inside here before bytes e =

@@ -1,8 +1,7 @@
 -- Laws of data written into the memory, byte by byte and line by line.
 -- Assumes nothing.
-use Rattle.std.proofs.Common.{◌≡◌, ℕ, suc, ◌+◌, ◌-◌, ◌*◌, ◌<◌, ◌≤◌, Bool, true, false, cond, eqb, List, ◌∷◌, map, length, get_or, take, drop, set, sym, refl, ap, ◌∙◌, le_refl, not-suc-le-zero, add-zero, add-one, arith, length-drop, drop_of_length-le, length-take, length-take-le, get_or-drop, take_all, drop-cons, get_or-take, take-take, take-add, drop_at, eqb-true}
+use Rattle.std.proofs.Common.{◌≡◌, ℕ, suc, ◌+◌, ◌-◌, ◌*◌, ◌<◌, ◌≤◌, Bool, true, false, cond, eqb, List, ◌∷◌, map, length, get_or, take, drop, set, sym, refl, ap, ◌∙◌, le_refl, not-suc-le-zero, add-zero, add-one, arith, length-drop, drop_of_length-le, length-take, length-take-le, get_or-drop, take_all, drop-cons, get_or-take, take-take, take-add, drop_at, eqb-true, Option, None, Some}
 use mathlib.Core.Bool.{and-eq-true_iff}
-use mathlib.Core.Option.{Option, none, some}
 use lib.Seq.{sets}
 use Rattle.text.specs.declared.reading.Read.TheVariants.{Number}
 use Rattle.srecord.specs.Lines.{content, cut, ends_in, without_last}
@@ -50,8 +49,8 @@ module _ (memory text : List ℕ) (at : ℕ) where
       go :
           (o : Option Record) →
           placed (placed_by memory o) (records (drop next text)) ≡ placed memory (o ∷ records (drop next text))
-      go none = refl
-      go (some r) = refl
+      go None = refl
+      go (Some r) = refl
 
   pub nothing_to_place : length text ≤ at → memory ≡ placed memory (records (drop at text))
   unfolding placed cut
@@ -61,17 +60,17 @@ module _ (memory text : List ℕ) (at : ℕ) where
 pub whole : (line : List ℕ) → take (length line - 2) (drop 2 line) ≡ drop 2 line
 whole line = take_all (length line - 2) (drop 2 line) (rw (length-drop 2 line) (le_refl (length line - 2)))
 
-pub same_opening : {x : Option Opening} {o p : Opening} → x ≡ some o → x ≡ some p → o ≡ p
+pub same_opening : {x : Option Opening} {o p : Opening} → x ≡ Some o → x ≡ Some p → o ≡ p
 same_opening e f = cc
 
 -- A line's content is a part of the line, from its begin.
-content_takes : (line c : List ℕ) → content line ≡ some c → (e : ℕ) × (c ≡ take e line) × (e ≤ length line)
+content_takes : (line c : List ℕ) → content line ≡ Some c → (e : ℕ) × (c ≡ take e line) × (e ≤ length line)
 unfolding content
 content_takes line c = go (ends_in 10 line) (ends_in 13 (without_last line))
   where
     go :
         (feed return : Bool) →
-        cond feed (some (cond return (without_last (without_last line)) (without_last line))) none ≡ some c →
+        cond feed (Some (cond return (without_last (without_last line)) (without_last line))) None ≡ Some c →
         (e : ℕ) × (c ≡ take e line) × (e ≤ length line)
     go true true e =
         let same : without_last (without_last line) ≡ c = cc in
@@ -84,38 +83,38 @@ content_takes line c = go (ends_in 10 line) (ends_in 13 (without_last line))
     go false return e = absurd (never e)
 
 -- A record taken apart into the steps that read it.
-of_ended : (x : Option (List ℕ)) (r : Record) → ended x ≡ some r → (c : List ℕ) × (x ≡ some c) × (opened (opening_of c) c ≡ some r)
-of_ended none r e = absurd (never e)
-of_ended (some c) r e = (c, refl, e)
+of_ended : (x : Option (List ℕ)) (r : Record) → ended x ≡ Some r → (c : List ℕ) × (x ≡ Some c) × (opened (opening_of c) c ≡ Some r)
+of_ended None r e = absurd (never e)
+of_ended (Some c) r e = (c, refl, e)
 
 of_opened :
-    (x : Option Opening) (line : List ℕ) (r : Record) → opened x line ≡ some r →
-    (o : Opening) × (x ≡ some o) × (with_bytes o (bytes_of (drop 2 line)) ≡ some r)
-of_opened none line r e = absurd (never e)
-of_opened (some o) line r e = (o, refl, e)
+    (x : Option Opening) (line : List ℕ) (r : Record) → opened x line ≡ Some r →
+    (o : Opening) × (x ≡ Some o) × (with_bytes o (bytes_of (drop 2 line)) ≡ Some r)
+of_opened None line r e = absurd (never e)
+of_opened (Some o) line r e = (o, refl, e)
 
 of_bytes :
-    (o : Opening) (x : Option (List ℕ)) (r : Record) → with_bytes o x ≡ some r →
-    (x ≡ some r.bytes) × (fits r.opening r.bytes ≡ true) × (o ≡ r.opening)
-of_bytes o none r e = absurd (never e)
-of_bytes o (some bytes) r e = go (fits o bytes) refl e
+    (o : Opening) (x : Option (List ℕ)) (r : Record) → with_bytes o x ≡ Some r →
+    (x ≡ Some r.bytes) × (fits r.opening r.bytes ≡ true) × (o ≡ r.opening)
+of_bytes o None r e = absurd (never e)
+of_bytes o (Some bytes) r e = go (fits o bytes) refl e
   where
     go :
-        (t : Bool) → fits o bytes ≡ t → cond t (some (record { opening = o; bytes = bytes })) none ≡ some r →
-        (some bytes ≡ some r.bytes) × (fits r.opening r.bytes ≡ true) × (o ≡ r.opening)
+        (t : Bool) → fits o bytes ≡ t → cond t (Some (record { opening = o; bytes = bytes })) None ≡ Some r →
+        (Some bytes ≡ Some r.bytes) × (fits r.opening r.bytes ≡ true) × (o ≡ r.opening)
     go true f e =
         let same : record { opening = o; bytes = bytes } ≡ r = cc in (
-          ap some (ap (λ (x : Record). x.bytes) same),
+          ap Some (ap (λ (x : Record). x.bytes) same),
           sym (ap (λ (x : Record). fits x.opening x.bytes) same) ∙ f,
           ap (λ (x : Record). x.opening) same,
         )
     go false f e = absurd (never e)
 
-module _ (line : List ℕ) (r : Record) (is : record_of line ≡ some r) where
+module _ (line : List ℕ) (r : Record) (is : record_of line ≡ Some r) where
   -- The digits that stand before the line's end.
   read :
-      (e : ℕ) × (e ≤ length line) × (bytes_of (drop 2 (take e line)) ≡ some r.bytes) × (fits r.opening r.bytes ≡ true)
-      × (opening_of (take e line) ≡ some r.opening)
+      (e : ℕ) × (e ≤ length line) × (bytes_of (drop 2 (take e line)) ≡ Some r.bytes) × (fits r.opening r.bytes ≡ true)
+      × (opening_of (take e line) ≡ Some r.opening)
   unfolding record_of
   read =
       let c = of_ended (content line) r is in
@@ -126,7 +125,7 @@ module _ (line : List ℕ) (r : Record) (is : record_of line ≡ some r) where
         t.2,
         sym (ap (λ (l : List ℕ). bytes_of (drop 2 l)) t.1) ∙ b.0,
         b.1,
-        sym (ap opening_of t.1) ∙ o.1 ∙ ap some b.2,
+        sym (ap opening_of t.1) ∙ o.1 ∙ ap Some b.2,
       )
 
   counted : (length r.bytes ≡ get_or r.bytes 0 0 + 1) × (r.opening.width + 1 ≤ get_or r.bytes 0 0)
@@ -181,7 +180,7 @@ module _ (line : List ℕ) (r : Record) (is : record_of line ≡ some r) where
       go Closing j inside = absurd (not-suc-le-zero inside)
 
   -- The opening and the count can be read from the line itself.
-  pub opening_seen : opening_of line ≡ some r.opening
+  pub opening_seen : opening_of line ≡ Some r.opening
   unfolding opening_of
   opening_seen = rw (take-take 2 read.0 line (omega (arith, digits_end))) at read.4
 
@@ -195,7 +194,7 @@ module _ (line : List ℕ) (r : Record) (is : record_of line ≡ some r) where
     pub count_enough : r.opening.width + 1 ≤ count
     count_enough = omega (arith, counted)
 
-    pub digits_read : bytes_of (take (4 + 2 * count - 2) (drop 2 line)) ≡ some r.bytes
+    pub digits_read : bytes_of (take (4 + 2 * count - 2) (drop 2 line)) ≡ Some r.bytes
     digits_read =
         let m = 4 + 2 * count - 2 in
         let e : 2 + m ≡ read.0 = omega (arith, digits_end, counted) in

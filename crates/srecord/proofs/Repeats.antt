@@ -1,8 +1,7 @@
 -- What marks tell of the lines passed so far, and the first line that writes an address again.
 -- Assumes nothing.
-use Rattle.std.proofs.Common.{◌≡◌, ℕ, ◌+◌, ◌-◌, ◌/◌, ◌%◌, ◌^◌, ◌<◌, ◌≤◌, Bool, true, false, eqb, ltb, List, ◌∷◌, map, length, get_or, take, drop, replicate, sym, refl, ap, ◌∙◌, not-suc-le-zero, add-zero, lt_irrefl, arith, length-drop, drop_of_length-le, get_or-drop, drop-drop, ltb-false, ltb-true, eqb-true}
+use Rattle.std.proofs.Common.{◌≡◌, ℕ, ◌+◌, ◌-◌, ◌/◌, ◌%◌, ◌^◌, ◌<◌, ◌≤◌, Bool, true, false, eqb, ltb, List, ◌∷◌, map, length, get_or, take, drop, replicate, sym, refl, ap, ◌∙◌, not-suc-le-zero, add-zero, lt_irrefl, arith, length-drop, drop_of_length-le, get_or-drop, drop-drop, ltb-false, ltb-true, eqb-true, Option, None, Some}
 use mathlib.Core.Bool.{or-true, false≢true}
-use mathlib.Core.Option.{Option, none, some}
 use native.Mathlib.Nat.{zero-div}
 use lib.ListN.{get_or-replicate, get_or-eq_default}
 use borrow.Author.Tests.{eqb-false}
@@ -16,7 +15,7 @@ use Rattle.srecord.specs.Promises.{Again, AllRead, FirstAgain, LineAt, Marks, On
 pub record Written (lines : List (Option Record)) (n a : ℕ) : Type 0 where
   pub line : ℕ
   pub before : line < n
-  pub wrote : writes (get_or lines line none) a ≡ true
+  pub wrote : writes (get_or lines line None) a ≡ true
 
 -- The lines passed write no address of the window twice, and the marks are on those that they write.
 pub record Passed (lines : List (Option Record)) (low n : ℕ) (marks : List ℕ) : Type 0 where
@@ -40,13 +39,13 @@ module _ (lines : List (Option Record)) where
 
   module _ {low n : ℕ} {before after : List ℕ} (p : Passed lines low n before) where
     -- A line that writes one which is marked.
-    pub marked_again : Marks before (λ i. writes (get_or lines n none) (low + i)) true after → Again lines n
+    pub marked_again : Marks before (λ i. writes (get_or lines n None) (low + i)) true after → Again lines n
     marked_again m =
         let t = m.taken refl in
         let w = p.only t.0 t.1 t.3 in
         record { earlier = w.line; address = low + t.0; before = w.before; first = w.wrote; second = t.2 }
 
-    module _ (m : Marks before (λ i. writes (get_or lines n none) (low + i)) false after) where
+    module _ (m : Marks before (λ i. writes (get_or lines n None) (low + i)) false after) where
       all : (i : ℕ) → i < 229376 → Written lines (n + 1) (low + i) → marked after i ≡ true
       all i below w = go (eqb w.line n) refl
         where
@@ -67,8 +66,8 @@ module _ (lines : List (Option Record)) where
           go false e = record { line = n; before = omega arith; wrote = rw e at (sym (m.now refl i below) ∙ full) }
 
       never :
-          (i k : ℕ) → i < n → k < 229376 → writes (get_or lines i none) (low + k) ≡ true →
-          writes (get_or lines n none) (low + k) ≡ true → ⊥
+          (i k : ℕ) → i < n → k < 229376 → writes (get_or lines i None) (low + k) ≡ true →
+          writes (get_or lines n None) (low + k) ≡ true → ⊥
       never i k earlier below first second =
           let full = p.all k below (record { line = i; before = earlier; wrote = first }) in
           false≢true (sym (m.free refl k below second) ∙ full)
@@ -96,19 +95,19 @@ module _ (text : List ℕ) (at next n : ℕ) (line : LineAt text at next) (reach
   here = reached ∙ ap (map record_of) line.cuts
 
   -- The line at hand is line n,
-  pub line_at : get_or (records text) n none ≡ record_of (take (next - at) (drop at text))
-  line_at = rw (← add-zero n, ← get_or-drop n (records text) 0 none, here)
+  pub line_at : get_or (records text) n None ≡ record_of (take (next - at) (drop at text))
+  line_at = rw (← add-zero n, ← get_or-drop n (records text) 0 None, here)
 
   -- which writes what the code has it write;
   pub writes_at :
       {limit : ℕ} → AllRead (records text) limit → n < limit → (p : Parsed) → Spans (take (next - at) (drop at text)) p → (a : ℕ) →
-      writes (get_or (records text) n none) a ≡ writes_by p a
+      writes (get_or (records text) n None) a ≡ writes_by p a
   writes_at all less p spans a = go (record_of (take (next - at) (drop at text))) refl
     where
       go :
-          (o : Option Record) → record_of (take (next - at) (drop at text)) ≡ o → writes (get_or (records text) n none) a ≡ writes_by p a
-      go none e = absurd (all n less (line_at ∙ e))
-      go (some r) e = rw (line_at, e) (spans r e a)
+          (o : Option Record) → record_of (take (next - at) (drop at text)) ≡ o → writes (get_or (records text) n None) a ≡ writes_by p a
+      go None e = absurd (all n less (line_at ∙ e))
+      go (Some r) e = rw (line_at, e) (spans r e a)
 
   -- and the next lines begin behind it.
   pub lines_behind : Reached text next (n + 1)
@@ -143,7 +142,7 @@ module _ (lines : List (Option Record)) {low n limit : ℕ} {marks : List ℕ} (
           go true e = p.once i j a less (ltb-true j n e) from to first second
           go false e =
               let beyond : length lines ≤ j = omega (arith, ltb-false j n e) in
-              false≢true (rw (get_or-eq_default lines none beyond) at second)
+              false≢true (rw (get_or-eq_default lines None beyond) at second)
 
 module _ (lines : List (Option Record)) where
   -- No address, no line that writes one again.
@@ -171,7 +170,7 @@ module _ (lines : List (Option Record)) where
       once : Once lines second low high
       once i j a less below from to = go (ltb a middle) refl
         where
-          go : (lower : Bool) → ltb a middle ≡ lower → writes (get_or lines i none) a ≡ true → writes (get_or lines j none) a ≡ true → ⊥
+          go : (lower : Bool) → ltb a middle ≡ lower → writes (get_or lines i None) a ≡ true → writes (get_or lines j None) a ≡ true → ⊥
           go true e = f.once i j a less (omega (arith, g.within)) from (ltb-true a middle e)
           go false e = g.once i j a less below (ltb-false a middle e) to
 

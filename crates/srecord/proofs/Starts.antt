@@ -1,8 +1,7 @@
 -- Laws of openings: a line's first two bytes compared with two others.
 -- Assumes nothing.
-use Rattle.std.proofs.Common.{◌≡◌, ℕ, ◌<◌, ◌≤◌, Bool, true, false, cond, ◌&&◌, eqb, ltb, leb, List, [], ◌∷◌, length, take, sym, refl, ap, ◌∙◌, not-suc-le-zero, arith, ltb-false, ltb-true, leb-true}
+use Rattle.std.proofs.Common.{◌≡◌, ℕ, ◌<◌, ◌≤◌, Bool, true, false, cond, ◌&&◌, eqb, ltb, leb, List, [], ◌∷◌, length, take, sym, refl, ap, ◌∙◌, not-suc-le-zero, arith, ltb-false, ltb-true, leb-true, Option, None, Some}
 use mathlib.Core.Bool.{and-eq-true_iff, and-false, and-true}
-use mathlib.Core.Option.{Option, none, some}
 use Rattle.srecord.specs.Records.{Opening, among, opening_of, openings, same}
 use Rattle.srecord.specs.Promises.{begins, found_of}
 use Rattle.srecord.specs.declared.openings.Kind.{Kind}
@@ -34,8 +33,8 @@ picks P false p q = q
 
 -- No address has more than four bytes.
 abbrev Narrow : Option Opening → Type 0
-Narrow none = Unit {0}
-Narrow (some o) = o.width ≤ 4
+Narrow None = Unit {0}
+Narrow (Some o) = o.width ≤ 4
 
 abbrev all_narrow : List Opening → Bool
 all_narrow [] = true
@@ -45,29 +44,29 @@ among_narrow : (os : List Opening) → all_narrow os ≡ true → (start : List 
 among_narrow [] e start = tt
 among_narrow (o ∷ rest) e start =
     let both = (and-eq-true_iff (leb o.width 4) (all_narrow rest)).0 e in
-    picks Narrow (same start o.start) {x = some o} (leb-true o.width 4 both.0) (among_narrow rest both.1 start)
+    picks Narrow (same start o.start) {x = Some o} (leb-true o.width 4 both.0) (among_narrow rest both.1 start)
 
 narrow : (line : List ℕ) → Narrow (opening_of line)
 unfolding opening_of
 narrow line = among_narrow openings refl (take 2 line)
 
 -- What is known of a line whose opening was found, or was not.
-pub unknown : (line : List ℕ) → Unknown ≡ found_of (opening_of line) → opening_of line ≡ none
+pub unknown : (line : List ℕ) → Unknown ≡ found_of (opening_of line) → opening_of line ≡ None
 unknown line = go (opening_of line)
   where
-    go : (o : Option Opening) → Unknown ≡ found_of o → o ≡ none
-    go none e = refl
-    go (some o) e = let z : ◌≡◌ {A = ℕ} 0 1 = cc in absurd (omega arith)
+    go : (o : Option Opening) → Unknown ≡ found_of o → o ≡ None
+    go None e = refl
+    go (Some o) e = let z : ◌≡◌ {A = ℕ} 0 1 = cc in absurd (omega arith)
 
 module _ (line : List ℕ) {kind : Kind} {width : ℕ} (found : Found.Opening kind width ≡ found_of (opening_of line)) where
-  pub starts : (start : List ℕ) × (opening_of line ≡ some (record { start = start; kind = kind; width = width })) × (width ≤ 4)
+  pub starts : (start : List ℕ) × (opening_of line ≡ Some (record { start = start; kind = kind; width = width })) × (width ≤ 4)
   starts = go (opening_of line) found (narrow line)
     where
       go :
           (o : Option Opening) → Found.Opening kind width ≡ found_of o → Narrow o →
-          (start : List ℕ) × (o ≡ some (record { start = start; kind = kind; width = width })) × (width ≤ 4)
-      go none e n = let z : ◌≡◌ {A = ℕ} 0 1 = cc in absurd (omega arith)
-      go (some o) e n =
+          (start : List ℕ) × (o ≡ Some (record { start = start; kind = kind; width = width })) × (width ≤ 4)
+      go None e n = let z : ◌≡◌ {A = ℕ} 0 1 = cc in absurd (omega arith)
+      go (Some o) e n =
           let k : o.kind ≡ kind = cc in
           let w : o.width ≡ width = cc in
           (o.start, rw (← k, ← w), rw (← w) n)

@@ -1,7 +1,6 @@
 -- What the code keeps of a record, from the bytes of its digits.
 -- Assumes nothing.
-use Rattle.std.proofs.Common.{◌≡◌, ℕ, ◌+◌, ◌-◌, ◌/◌, ◌%◌, ◌<◌, ◌≤◌, true, false, eqb, List, length, get_or, drop, sym, refl, ap, ◌∙◌, arith, length-drop, length-take-le, eq-eqb, ne_eqb, eqb-true, leb-true}
-use mathlib.Core.Option.{Option, none, some}
+use Rattle.std.proofs.Common.{◌≡◌, ℕ, ◌+◌, ◌-◌, ◌/◌, ◌%◌, ◌<◌, ◌≤◌, true, false, eqb, List, length, get_or, drop, sym, refl, ap, ◌∙◌, arith, length-drop, length-take-le, eq-eqb, ne_eqb, eqb-true, leb-true, Option, None, Some}
 use Rattle.srecord.specs.Records.{Opening, Record, bytes_of, carried, data_for, fits, may}
 use Rattle.srecord.specs.Load.{sum}
 use Rattle.srecord.specs.Promises.{ByteAt, NumberAt, length_for, parsed_of, total_of, with_bytes}
@@ -13,13 +12,13 @@ use Rattle.srecord.proofs.Pairs.{pair_of, twice_as_long}
 
 -- What a sum tells of the digits.
 pub sum_known :
-    (x : Option (List ℕ)) {s : ℕ} → total.Sum s ≡ total_of x → (bytes : List ℕ) × (x ≡ some bytes) × (s ≡ sum bytes % 256)
-sum_known none e = let z : ◌≡◌ {A = ℕ} 0 1 = cc in absurd (omega arith)
-sum_known (some bytes) e = (bytes, refl, cc)
+    (x : Option (List ℕ)) {s : ℕ} → total.Sum s ≡ total_of x → (bytes : List ℕ) × (x ≡ Some bytes) × (s ≡ sum bytes % 256)
+sum_known None e = let z : ◌≡◌ {A = ℕ} 0 1 = cc in absurd (omega arith)
+sum_known (Some bytes) e = (bytes, refl, cc)
 
-pub not_digits : (x : Option (List ℕ)) → total.NotHex ≡ total_of x → x ≡ none
-not_digits none e = refl
-not_digits (some bytes) e = let z : ◌≡◌ {A = ℕ} 0 1 = cc in absurd (omega arith)
+pub not_digits : (x : Option (List ℕ)) → total.NotHex ≡ total_of x → x ≡ None
+not_digits None e = refl
+not_digits (Some bytes) e = let z : ◌≡◌ {A = ℕ} 0 1 = cc in absurd (omega arith)
 
 pub may_least : (kind : Kind) (least count : ℕ) → may kind least count ≡ true → least ≤ count
 may_least Header least count e = leb-true least count e
@@ -36,7 +35,7 @@ length_for_data Closing bytes = refl
 abbrev opens : List ℕ → Kind → ℕ → Opening
 opens start kind width = record { start = start; kind = kind; width = width }
 
-module _ (digits bytes : List ℕ) (known : bytes_of digits ≡ some bytes) where
+module _ (digits bytes : List ℕ) (known : bytes_of digits ≡ Some bytes) where
   pub halves : length digits / 2 ≡ length bytes
   halves = omega (arith, twice_as_long digits bytes known)
 

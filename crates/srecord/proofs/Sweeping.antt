@@ -1,7 +1,6 @@
 -- Laws of one sweep over the lines, line by line.
 -- Assumes nothing.
-use Rattle.std.proofs.Common.{◌≡◌, ℕ, ◌+◌, ◌-◌, ◌≤◌, Bool, true, false, cond, List, ◌∷◌, map, length, take, drop, refl, ap, arith, drop_of_length-le, eq-eqb, ne_eqb}
-use mathlib.Core.Option.{Option, none, some}
+use Rattle.std.proofs.Common.{◌≡◌, ℕ, ◌+◌, ◌-◌, ◌≤◌, Bool, true, false, cond, List, ◌∷◌, map, length, take, drop, refl, ap, arith, drop_of_length-le, eq-eqb, ne_eqb, Option, None, Some}
 use Rattle.memory.specs.Lengths.{first}
 use Rattle.srecord.specs.Lines.{cut}
 use Rattle.srecord.specs.Records.{Record, is_data, record_of}
@@ -12,13 +11,13 @@ use Rattle.srecord.specs.declared.records.Summary.{Summary}
 use Rattle.srecord.specs.declared.sweep.SoFar.{SoFar}
 
 -- What is known of a line that was read, or was not.
-pub is_known : (o : Option Record) {r : Summary} → parsed.Record r ≡ parsed_of o → (x : Record) × (o ≡ some x) × (summary x ≡ r)
-is_known none e = let z : ◌≡◌ {A = ℕ} 0 1 = cc in absurd (omega arith)
-is_known (some x) e = (x, refl, cc)
+pub is_known : (o : Option Record) {r : Summary} → parsed.Record r ≡ parsed_of o → (x : Record) × (o ≡ Some x) × (summary x ≡ r)
+is_known None e = let z : ◌≡◌ {A = ℕ} 0 1 = cc in absurd (omega arith)
+is_known (Some x) e = (x, refl, cc)
 
-pub is_none : (o : Option Record) → parsed.Malformed ≡ parsed_of o → o ≡ none
-is_none none e = refl
-is_none (some x) e = let z : ◌≡◌ {A = ℕ} 0 1 = cc in absurd (omega arith)
+pub is_none : (o : Option Record) → parsed.Malformed ≡ parsed_of o → o ≡ None
+is_none None e = refl
+is_none (Some x) e = let z : ◌≡◌ {A = ℕ} 0 1 = cc in absurd (omega arith)
 
 pub counts_on : (s : SoFar) (r : Summary) → (noted s r).count ≤ s.count + 1
 unfolding noted

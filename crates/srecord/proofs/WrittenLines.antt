@@ -92,7 +92,7 @@ next_line memory at inside =
 
 pub last_line : (memory : List ℕ) (at : ℕ) → length memory ≤ at → lines_from memory at ≡ []
 unfolding s3_lines
-last_line memory at over = let none : (length memory - at + 15) / 16 ≡ 0 = omega arith in rw none
+last_line memory at over = let empty : (length memory - at + 15) / 16 ≡ 0 = omega arith in rw empty
 
 -- A line takes 16 bytes, or those that are left.
 pub piece : (l : List ℕ) → take (min 16 (length l)) l ≡ take 16 l
@@ -109,7 +109,7 @@ abbrev pub lines_length : ℕ → ℕ
 lines_length n = 2 * n + 15 * ((n + 15) / 16)
 
 piece_left : (n k : ℕ) → 0 < n → k ≡ min 16 n → 2 + (2 * k + 13) + lines_length (n - 16) ≡ lines_length n
-piece_left n k some e = omega (arith, e)
+piece_left n k more e = omega (arith, e)
 
 pub piece_length :
     (memory : List ℕ) (at : ℕ) {k : ℕ} → k ≡ min 16 (length memory - at) → length (take (at + k - at) (drop at memory)) ≡ k
@@ -119,8 +119,8 @@ pub piece_fits :
     (n at place room : ℕ) {k : ℕ} → at < n → k ≡ min 16 (n - at) → place + lines_length (n - at) ≡ lines_length n → lines_length n ≤ room →
     place + (2 * k + 15) ≤ room
 piece_fits n at place room {k} inside e left h =
-    let some : 0 < n - at = omega arith in
-    omega (arith, piece_left (n - at) k some e)
+    let more : 0 < n - at = omega arith in
+    omega (arith, piece_left (n - at) k more e)
 
 pub line_done :
     (memory b : List ℕ) (at place : ℕ) {k : ℕ} {a : List ℕ} {end : ℕ} → at < length memory → k ≡ min 16 (length memory - at) →
@@ -130,12 +130,12 @@ pub line_done :
 line_done memory b at place {k} inside e done =
     let l = drop at memory in
     let m = length memory - at in
-    let some : 0 < m = omega arith in
+    let more : 0 < m = omega arith in
     let n : at + k - at ≡ min 16 (length l) = rw (length-drop at memory) (omega (arith, e)) in
     let bytes : take (at + k - at) l ≡ take 16 l = rw n (piece l) in
     let fewer : length memory - (at + 16) ≡ m - 16 = omega arith in (
       rw (done.ends, line_length (ascii "S3") at (take (at + k - at) l), piece_length memory at e, fewer)
-          (add_assoc place (2 + (2 * k + 13)) (lines_length (m - 16)) ∙ ap (λ (x : ℕ). place + x) (piece_left m k some e)),
+          (add_assoc place (2 + (2 * k + 13)) (lines_length (m - 16)) ∙ ap (λ (x : ℕ). place + x) (piece_left m k more e)),
       rw (done.places, done.ends, bytes, next_line memory at inside)
           (both b (line_of (ascii "S3") at (take 16 l)) (lines_from memory (at + 16)) place),
     )

@@ -1,6 +1,5 @@
 -- Loading a text into a memory: document 02, request One. The refusals in its order, and the memory after.
-use Rattle.std.specs.Prelude.{◌≡◌, ℕ, ◌+◌, ◌%◌, min, max, Bool, true, false, cond, not, ◌&&◌, ◌||◌, List, [], ◌∷◌, map, length, ◌==◌, nat_le, nat_lt}
-use Rattle.std.proofs.Math.Option.{Option, none, some}
+use Rattle.std.specs.Prelude.{◌≡◌, ℕ, ◌+◌, ◌%◌, min, max, Bool, true, false, cond, not, ◌&&◌, ◌||◌, List, [], ◌∷◌, map, length, ◌==◌, nat_le, nat_lt, Option, None, Some}
 use Rattle.std.proofs.lemmas.List.Edits.{sets}
 use Rattle.memory.specs.Lengths.{Test, first, refused_length, test}
 use Rattle.srecord.specs.declared.Loaded.{Loaded}
@@ -36,8 +35,8 @@ end_of r = address r + length (data_of r)
 
 -- Whether a line writes an address: in this word the theorems speak of bytes that lines name.
 abbrev pub writes : Option Record → ℕ → Bool
-writes none a = false
-writes (some r) a = nat_le (address r) a && nat_lt a (end_of r)
+writes None a = false
+writes (Some r) a = nat_le (address r) a && nat_lt a (end_of r)
 
 -- Whether the records are closed: one of them is an S7, S8 or S9 line.
 unfoldable pub closed : List Record → Bool
@@ -71,12 +70,12 @@ record_tests size earlier r =
 
 -- A line's refusals. 10: "bad letter, type, length or line end"
 abbrev pub line_tests : ℕ → List Record → Option Record → List Test
-line_tests size earlier none = test 10 true ∷ []
-line_tests size earlier (some r) = record_tests size earlier r
+line_tests size earlier None = test 10 true ∷ []
+line_tests size earlier (Some r) = record_tests size earlier r
 
 abbrev pub and_before : Option Record → List Record → List Record
-and_before none earlier = earlier
-and_before (some r) earlier = r ∷ earlier
+and_before None earlier = earlier
+and_before (Some r) earlier = r ∷ earlier
 
 -- The refusal's number, 0 where the text is accepted, and the line that it is about, 0 where it is about none.
 pub record Verdict : Type 0 where
@@ -104,8 +103,8 @@ verdict_on text size =
 -- The memory with the data of each line from its address on.
 unfoldable pub placed : List ℕ → List (Option Record) → List ℕ
 placed memory [] = memory
-placed memory (none ∷ rest) = placed memory rest
-placed memory (some r ∷ rest) = placed (sets memory (address r) (data_of r)) rest
+placed memory (None ∷ rest) = placed memory rest
+placed memory (Some r ∷ rest) = placed (sets memory (address r) (data_of r)) rest
 
 -- "Bytes that no line names keep their value, and a refused text changes no byte."
 abbrev pub memory_after : List ℕ → List ℕ → List ℕ

@@ -1,6 +1,5 @@
 -- What the inner functions promise. `Loads` and `Exports` do not use it: none of it need be believed.
-use Rattle.std.specs.Prelude.{◌≡◌, ℕ, ◌+◌, ◌*◌, ◌/◌, ◌%◌, ◌^◌, ◌<◌, ◌≤◌, Bool, true, false, cond, not, ◌&&◌, ◌||◌, List, [], ◌∷◌, length, take, drop, ◌==◌, ◌≢◌, nat_le, nat_lt, slice_index, slice_index_or, slice_range}
-use Rattle.std.proofs.Math.Option.{Option, none, some}
+use Rattle.std.specs.Prelude.{◌≡◌, ℕ, ◌+◌, ◌*◌, ◌/◌, ◌%◌, ◌^◌, ◌<◌, ◌≤◌, Bool, true, false, cond, not, ◌&&◌, ◌||◌, List, [], ◌∷◌, length, take, drop, ◌==◌, ◌≢◌, nat_le, nat_lt, slice_index, slice_index_or, slice_range, Option, None, Some}
 use Rattle.std.proofs.lemmas.List.Edits.{sets}
 use Rattle.memory.specs.Access.{value_at}
 use Rattle.memory.specs.Lengths.{Test, first, test}
@@ -32,8 +31,8 @@ pub record LineAt (text : List ℕ) (at next : ℕ) : Type 0 where
 
 -- A line's content ends at a place, or has no end.
 abbrev pub content_by : List ℕ → End → Option (List ℕ)
-content_by line (end.At e) = some (take e line)
-content_by line end.Missing = none
+content_by line (end.At e) = Some (take e line)
+content_by line end.Missing = None
 
 abbrev pub inside_of : List ℕ → End → Type 0
 inside_of line (end.At e) = e ≤ length line
@@ -49,13 +48,13 @@ begins line start = slice_index line 0 == slice_index start 0 && slice_index lin
 
 -- An opening, as the code has it.
 abbrev pub found_of : Option Opening → Found
-found_of none = found.Unknown
-found_of (some o) = found.Opening o.kind o.width
+found_of None = found.Unknown
+found_of (Some o) = found.Opening o.kind o.width
 
 -- The sum of a line's bytes, as the code has it.
 abbrev pub total_of : Option (List ℕ) → Total
-total_of none = total.NotHex
-total_of (some bytes) = total.Sum (sum bytes % 256)
+total_of None = total.NotHex
+total_of (Some bytes) = total.Sum (sum bytes % 256)
 
 -- The byte that the pair of digits number i makes.
 abbrev pub pair_at : List ℕ → ℕ → Read
@@ -66,7 +65,7 @@ ByteAt digits i byte = (n : ℕ) → pair_at digits i ≡ read.Number n → byte
 
 -- The number that k of them make from number `at` on.
 pub record NumberAt (digits : List ℕ) (at k n : ℕ) : Type 0 where
-  pub reads : (bytes : List ℕ) → bytes_of digits ≡ some bytes → n ≡ value_at k bytes at
+  pub reads : (bytes : List ℕ) → bytes_of digits ≡ Some bytes → n ≡ value_at k bytes at
   pub small : n < 256 ^ k
 
 -- How many of n bytes a line of this kind writes.
@@ -85,12 +84,12 @@ summary r =
     }
 
 abbrev pub parsed_of : Option Record → Parsed
-parsed_of none = parsed.Malformed
-parsed_of (some r) = parsed.Record (summary r)
+parsed_of None = parsed.Malformed
+parsed_of (Some r) = parsed.Record (summary r)
 
 -- What `record_of` does in turn: with a line's bytes, behind its opening, before its end.
 abbrev pub with_bytes : Opening → Option (List ℕ) → Option Record
-with_bytes o x = and_then x (λ bytes. cond (fits o bytes) (some (record { opening = o; bytes = bytes })) none)
+with_bytes o x = and_then x (λ bytes. cond (fits o bytes) (Some (record { opening = o; bytes = bytes })) None)
 
 abbrev pub opened : Option Opening → List ℕ → Option Record
 opened x line = and_then x (λ o. with_bytes o (bytes_of (drop 2 line)))
@@ -135,8 +134,8 @@ finding number line passed ordered = record { number = number; line = line; pass
 
 unfoldable pub swept : ℕ → ℕ → SoFar → List (Option Record) → Finding
 swept size n s [] = finding (cond s.closed 0 15) 0 n s.ordered
-swept size n s (none ∷ rest) = finding 10 (n + 1) n s.ordered
-swept size n s (some r ∷ rest) =
+swept size n s (None ∷ rest) = finding 10 (n + 1) n s.ordered
+swept size n s (Some r ∷ rest) =
     let number = first (single_tests size s.closed s.count (summary r)) in
     cond (number == 0) (swept size (n + 1) (noted s (summary r)) rest) (finding number (n + 1) n s.ordered)
 
@@ -149,16 +148,16 @@ finding_of s = finding (refusal_number s.refusal) s.line s.passed s.ordered
 -- Of the first `lines` lines no two write one address from `low` to below `high`.
 abbrev pub Once : List (Option Record) → ℕ → ℕ → ℕ → Type 0
 Once records lines low high =
-    (i j a : ℕ) → i < j → j < lines → low ≤ a → a < high → writes (slice_index_or records i none) a ≡ true →
-    writes (slice_index_or records j none) a ≢ true
+    (i j a : ℕ) → i < j → j < lines → low ≤ a → a < high → writes (slice_index_or records i None) a ≡ true →
+    writes (slice_index_or records j None) a ≢ true
 
 -- A line writes an address that an earlier one writes too.
 pub record Again (records : List (Option Record)) (line : ℕ) : Type 0 where
   pub earlier : ℕ
   pub address : ℕ
   pub before : earlier < line
-  pub first : writes (slice_index_or records earlier none) address ≡ true
-  pub second : writes (slice_index_or records line none) address ≡ true
+  pub first : writes (slice_index_or records earlier None) address ≡ true
+  pub second : writes (slice_index_or records line None) address ≡ true
 
 -- A line, of the first `limit`, that writes an address again, and before which none from `low` to below `high` is written twice; `limit`
 -- where there is no such line.
@@ -198,21 +197,21 @@ PlacesData digits from n memory address after =
 
 -- One line's data written.
 abbrev pub placed_by : List ℕ → Option Record → List ℕ
-placed_by memory none = memory
-placed_by memory (some r) = sets memory (address r) (data_of r)
+placed_by memory None = memory
+placed_by memory (Some r) = sets memory (address r) (data_of r)
 
 -- What a line writes, where it is a record; of another nothing is promised.
 abbrev pub Spans : List ℕ → Parsed → Type 0
-Spans line p = (r : Record) → record_of line ≡ some r → (a : ℕ) → writes (some r) a ≡ writes_by p a
+Spans line p = (r : Record) → record_of line ≡ Some r → (a : ℕ) → writes (Some r) a ≡ writes_by p a
 
 abbrev pub OpenedSpans : Kind → ℕ → List ℕ → Parsed → Type 0
 OpenedSpans kind width line p =
-    (r : Record) → record_of line ≡ some r → r.opening.kind ≡ kind → r.opening.width ≡ width → (a : ℕ) →
-    writes (some r) a ≡ writes_by p a
+    (r : Record) → record_of line ≡ Some r → r.opening.kind ≡ kind → r.opening.width ≡ width → (a : ℕ) →
+    writes (Some r) a ≡ writes_by p a
 
 -- The first `lines` lines are records.
 abbrev pub AllRead : List (Option Record) → ℕ → Type 0
-AllRead records lines = (i : ℕ) → i < lines → slice_index_or records i none ≢ none
+AllRead records lines = (i : ℕ) → i < lines → slice_index_or records i None ≢ None
 
 -- What the functions that write a text promise: the text from a place on, every other byte as it was, and the place behind the text.
 pub record Places (text before : List ℕ) (at : ℕ) (after : List ℕ) (end : ℕ) : Type 0 where

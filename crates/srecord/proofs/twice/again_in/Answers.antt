@@ -1,7 +1,6 @@
 -- `again_in` passes line after line: none of them wrote an address of the window again, and the marks are on what they wrote.
 -- Assumes nothing.
-use Rattle.std.proofs.Common.{ℕ, ◌+◌, Bool, List, get_or, refl, ◌∙◌, arith}
-use mathlib.Core.Option.{none}
+use Rattle.std.proofs.Common.{ℕ, ◌+◌, Bool, List, get_or, refl, ◌∙◌, arith, None}
 use lib.ListN.{length-replicate}
 use Rattle.srecord.specs.Load.{records, writes}
 use Rattle.srecord.specs.Promises.{Marks}
@@ -12,7 +11,7 @@ use Rattle.srecord.proofs.twice.again_in.Goals as goal
 
 -- What line n writes of the window: this is marked.
 abbrev of_line : List ℕ → ℕ → ℕ → ℕ → Bool
-of_line text n low = λ i. writes (get_or (records text) n none) (low + i)
+of_line text n low = λ i. writes (get_or (records text) n None) (low + i)
 
 pub loop-at-init : goal.loop-at-init
 loop-at-init c = (omega arith, omega arith, length-replicate {A = ℕ} 28672 0, refl, none_passed _ _ 28672 (omega arith))
