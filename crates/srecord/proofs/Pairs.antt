@@ -1,6 +1,6 @@
 -- Laws of bytes read from pairs of digits.
 -- Assumes nothing.
-use Rattle.std.proofs.Common.{◌≡◌, ℕ, zero, suc, ◌+◌, ◌*◌, ◌/◌, ◌%◌, ◌^◌, ◌<◌, ◌≤◌, Bool, true, false, ◌&&◌, ltb, List, [], ◌∷◌, length, get_or, drop, sym, refl, ap, ◌∙◌, not-suc-le-zero, pow-suc, add-one, arith, drop-cons, ltb-false, ltb-true, Option, None, Some}
+use Rattle.std.proofs.Common.{◌≡◌, ℕ, zero, suc, ◌+◌, ◌-◌, ◌*◌, ◌/◌, ◌%◌, ◌^◌, ◌<◌, ◌≤◌, Bool, true, false, ◌&&◌, ltb, List, [], ◌∷◌, length, get_or, drop, take, sym, refl, ap, ◌∙◌, not-suc-le-zero, pow-suc, add-one, arith, length-take, get_or-drop, get_or-take, drop-cons, ltb-false, ltb-true, Option, None, Some}
 use native.Mathlib.Nat.{pow-le-pow_right}
 use lib.ListN.{get_or-eq_default}
 use lib.Seq.{drop-length}
@@ -13,9 +13,9 @@ use Rattle.text.specs.declared.reading.Read.TheVariants.{Number, NotHex}
 use Rattle.text.proofs.Values.{ValueOfDigit, digit_small}
 use Rattle.srecord.specs.Records.{before, bytes_of}
 use Rattle.srecord.specs.Load.{sum}
-use Rattle.srecord.specs.Promises.{ByteAt, pair_at, total_of}
-use Rattle.srecord.specs.declared.records.Total.{Total}
-use Rattle.srecord.specs.declared.records.Total.TheVariants as total
+use Rattle.std.specs.Option.{option_map}
+use Rattle.std.specs.Simd.{first_chunks}
+use Rattle.srecord.specs.Promises.{ByteOf, Make}
 
 pub never : {A : Type 0} {a : A} → None ≡ Some a → ⊥
 never e = let z : ◌≡◌ {A = ℕ} 0 1 = cc in omega arith
@@ -58,8 +58,12 @@ twice_as_long (a ∷ b ∷ rest) bytes e =
     let t = taken_apart a b rest bytes e in
     rw t.2 (omega (arith, twice_as_long rest t.1 t.4))
 
+-- The pair of digits number i, and the byte that it makes.
+abbrev pub pair_at : List ℕ → ℕ → List ℕ
+pair_at digits i = get_or digits (2 * i) 0 ∷ get_or digits (2 * i + 1) 0 ∷ []
+
 pub pair_of :
-    (digits bytes : List ℕ) → bytes_of digits ≡ Some bytes → (i : ℕ) → i < length bytes → pair_at digits i ≡ Number (get_or bytes i 0)
+    (digits bytes : List ℕ) → bytes_of digits ≡ Some bytes → (i : ℕ) → i < length bytes → value EitherCase (pair_at digits i) ≡ Number (get_or bytes i 0)
 unfolding bytes_of
 pair_of [] bytes e i inside = let same : bytes ≡ [] = cc in absurd (not-suc-le-zero (rw same at inside))
 pair_of (a ∷ []) bytes e i inside = absurd (never e)
@@ -70,6 +74,12 @@ pair_of (a ∷ b ∷ rest) bytes e (suc i) inside =
     let high : 2 * suc i ≡ suc (suc (2 * i)) = omega arith in
     let low : 2 * suc i + 1 ≡ suc (suc (2 * i + 1)) = omega arith in
     rw (t.2, low, high) (pair_of rest t.1 t.4 i (omega arith))
+
+pub two_digits : (pair : List ℕ) → length pair ≡ 2 → pair ≡ get_or pair 0 0 ∷ get_or pair 1 0 ∷ []
+two_digits [] two = absurd (omega arith)
+two_digits (a ∷ []) two = absurd (omega arith)
+two_digits (a ∷ b ∷ []) two = refl
+two_digits (a ∷ b ∷ x ∷ rest) two = absurd (omega arith)
 
 -- The byte of a pair of digits, by the digits' values.
 module _ (a b : ℕ) where
@@ -106,15 +116,19 @@ bytes_small digits bytes e i = go (ltb i (length bytes)) refl
     go true inside = pair_small _ _ (get_or bytes i 0) (pair_of digits bytes e i (ltb-true i (length bytes) inside))
     go false outside = rw (get_or-eq_default bytes 0 (ltb-false i (length bytes) outside)) (omega arith)
 
+-- The low byte of the sum, where there are bytes.
+abbrev pub total_of : Option (List ℕ) → Option ℕ
+total_of x = option_map (λ bytes. sum bytes % 256) x
+
 -- The sum over what was read, with what is left.
-abbrev pub with_rest : Bool → ℕ → Option (List ℕ) → Total
-with_rest good s None = total.NotHex
-with_rest false s (Some bytes) = total.NotHex
-with_rest true s (Some bytes) = total.Sum ((s + sum bytes) % 256)
+abbrev pub with_rest : Bool → ℕ → Option (List ℕ) → Option ℕ
+with_rest good s None = None
+with_rest false s (Some bytes) = None
+with_rest true s (Some bytes) = Some ((s + sum bytes) % 256)
 
 pub from_zero : (o : Option (List ℕ)) → with_rest true 0 o ≡ total_of o
 from_zero None = refl
-from_zero (Some bytes) = ap total.Sum (omega arith)
+from_zero (Some bytes) = ap Some (omega arith)
 
 -- Behind the last digit.
 module _ (digits : List ℕ) (s i : ℕ) (good : Bool) (done : 2 * i ≡ length digits) where
@@ -122,12 +136,12 @@ module _ (digits : List ℕ) (s i : ℕ) (good : Bool) (done : 2 * i ≡ length 
   none_left = rw done (drop-length digits)
 
   pub ends_good :
-      good ≡ true → with_rest good s (bytes_of (drop (2 * i) digits)) ≡ total_of (bytes_of digits) → total.Sum (s % 256) ≡ total_of (bytes_of digits)
+      good ≡ true → with_rest good s (bytes_of (drop (2 * i) digits)) ≡ total_of (bytes_of digits) → Some (s % 256) ≡ total_of (bytes_of digits)
   unfolding bytes_of
-  ends_good e inv = ap total.Sum (omega arith) ∙ rw (e, none_left) at inv
+  ends_good e inv = ap Some (omega arith) ∙ rw (e, none_left) at inv
 
   pub ends_bad :
-      good ≡ false → with_rest good s (bytes_of (drop (2 * i) digits)) ≡ total_of (bytes_of digits) → total.NotHex ≡ total_of (bytes_of digits)
+      good ≡ false → with_rest good s (bytes_of (drop (2 * i) digits)) ≡ total_of (bytes_of digits) → None ≡ total_of (bytes_of digits)
   unfolding bytes_of
   ends_bad e inv = rw (e, none_left) at inv
 
@@ -143,7 +157,7 @@ one_pair a b rest {h} {l} high low good s =
         (r t : Read) (o : Option (List ℕ)) (good : Bool) → ((d : ℕ) → r ≡ Number d → h ≡ d) → ((d : ℕ) → t ≡ Number d → l ≡ d) →
         with_rest ((good && is_number r) && is_number t) ((s + (h * 16 + l)) % 2 ^ 32) o ≡ with_rest good s (before (joined r t) o)
     go (Number x) (Number y) (Some bytes) true p q =
-        let hx = p x refl in let ly = q y refl in rw (hx, ly) (ap total.Sum (omega arith))
+        let hx = p x refl in let ly = q y refl in rw (hx, ly) (ap Some (omega arith))
     go (Number x) (Number y) (Some bytes) false p q = refl
     go (Number x) (Number y) None good p q = refl
     go (Number x) NotHex (Some bytes) true p q = refl
@@ -154,10 +168,10 @@ one_pair a b rest {h} {l} high low good s =
     go NotHex t None good p q = refl
 
 -- An odd number of digits makes no bytes.
-pub odd : (digits : List ℕ) → (length digits ≡ 2 * (length digits / 2) → ⊥) → total.NotHex ≡ total_of (bytes_of digits)
+pub odd : (digits : List ℕ) → (length digits % 2 ≡ 0 → ⊥) → None ≡ total_of (bytes_of digits)
 odd digits uneven = go (bytes_of digits) refl
   where
-    go : (o : Option (List ℕ)) → bytes_of digits ≡ o → total.NotHex ≡ total_of o
+    go : (o : Option (List ℕ)) → bytes_of digits ≡ o → None ≡ total_of o
     go None e = refl
     go (Some bytes) e = absurd (uneven (omega (arith, twice_as_long digits bytes e)))
 
@@ -170,10 +184,42 @@ two_off digits i inside =
     let second : 2 * (i + 1) ≡ suc (suc (2 * i)) = omega arith in
     rw (drop-cons digits (2 * i) 0 (omega arith), first, second, drop-cons digits (suc (2 * i)) 0 (omega arith))
 
+-- The digits cut into pairs.
+pub pair_among :
+    (n : ℕ) (digits : List ℕ) (i : ℕ) → 2 * n ≤ length digits → i < n → (d : List ℕ) → get_or (first_chunks 2 n digits) i d ≡ pair_at digits i
+pair_among zero digits i room inside d = absurd (not-suc-le-zero inside)
+pair_among (suc n) [] i room inside d = absurd (omega arith)
+pair_among (suc n) (a ∷ []) i room inside d = absurd (omega arith)
+pair_among (suc n) (a ∷ b ∷ digits) zero room inside d = refl
+pair_among (suc n) (a ∷ b ∷ digits) (suc i) room inside d =
+    let high : 2 * suc i ≡ suc (suc (2 * i)) = omega arith in
+    let low : suc (suc (2 * i)) + 1 ≡ suc (suc (2 * i + 1)) = omega arith in
+    rw (high, low) (pair_among n digits i (omega arith) (omega arith) d)
+
+-- They make the bytes that the digits make,
+pub pairs_make :
+    (digits bytes : List ℕ) → bytes_of digits ≡ Some bytes → (i : ℕ) → i < length bytes →
+    value EitherCase (get_or (first_chunks 2 (length digits / 2) digits) i []) ≡ Number (get_or bytes i 0)
+pairs_make digits bytes known i inside =
+    let long = twice_as_long digits bytes known in
+    rw (pair_among (length digits / 2) digits i (omega arith) (omega (arith, long)) []) (pair_of digits bytes known i inside)
+
+-- and a part of them makes a part of these.
+pub part_makes :
+    (pairs : List (List ℕ)) (bytes : List ℕ) (n : ℕ) →
+    ((i : ℕ) → i < n → value EitherCase (get_or pairs i []) ≡ Number (get_or bytes i 0)) → (from to : ℕ) → to ≤ n →
+    Make (take (to - from) (drop from pairs)) bytes from
+part_makes pairs bytes n make from to few i inside =
+    let part : i < to - from = omega (arith, length-take (to - from) (drop from pairs)) in
+    rw (get_or-take (to - from) (drop from pairs) i [] part, get_or-drop from pairs i []) (make (from + i) (omega arith))
+
 -- A number read byte by byte.
-pub none_yet : (digits : List ℕ) (at : ℕ) (bytes : List ℕ) → bytes_of digits ≡ Some bytes → 0 ≡ value_at 0 bytes at
+abbrev pub SoFar : List (List ℕ) → ℕ → ℕ → Type 0
+SoFar pairs i n = (bytes : List ℕ) (at : ℕ) → Make pairs bytes at → n ≡ value_at i bytes at
+
+pub none_yet : (pairs : List (List ℕ)) → SoFar pairs 0 0
 unfolding value_at
-none_yet digits at bytes e = refl
+none_yet pairs bytes at make = refl
 
 pub below_power : (n i : ℕ) → n < 256 ^ i → i < 4 → n < 16777216
 below_power n i small few =
@@ -184,10 +230,7 @@ pub power_more : (n b i : ℕ) → n < 256 ^ i → b < 256 → n * 256 + b < 256
 power_more n b i small byte = rw (add-one i, pow-suc 256 i) (omega arith)
 
 pub byte_more :
-    (digits : List ℕ) (at i n b : ℕ) → 2 * (at + i) + 1 < length digits → ByteAt digits (at + i) b →
-    ((bytes : List ℕ) → bytes_of digits ≡ Some bytes → n ≡ value_at i bytes at) → (bytes : List ℕ) → bytes_of digits ≡ Some bytes →
-    n * 256 + b ≡ value_at (i + 1) bytes at
+    (pairs : List (List ℕ)) (i n b : ℕ) → i < length pairs → ByteOf (get_or pairs i []) b → SoFar pairs i n → SoFar pairs (i + 1) (n * 256 + b)
 unfolding value_at
-byte_more digits at i n b inside here before bytes e =
-    let room : at + i < length bytes = omega (arith, twice_as_long digits bytes e) in
-    rw (add-one i, before bytes e, here (get_or bytes (at + i) 0) (pair_of digits bytes e (at + i) room))
+byte_more pairs i n b inside here before bytes at make =
+    rw (add-one i, before bytes at make, here (get_or bytes (at + i) 0) (make i inside))

@@ -15,7 +15,8 @@ use Rattle.srecord.specs.Export.{bytes_in, check_byte, counted, line_of, pairs}
 use Rattle.srecord.specs.Lines.{content, cut}
 use Rattle.srecord.specs.Load.{records, sum}
 use Rattle.srecord.specs.Promises.{with_bytes}
-use Rattle.srecord.specs.Records.{Opening, Record, address, among, bytes_of, data_of, opening_of, openings, record_of}
+use Rattle.srecord.specs.declared.openings.Opening.{Opening}
+use Rattle.srecord.specs.Records.{Record, address, among, bytes_of, data_of, opening_of, openings, record_of}
 use Rattle.srecord.proofs.WrittenPairs.{sum_append}
 
 -- A text in which a byte does not stand.

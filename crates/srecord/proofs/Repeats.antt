@@ -5,7 +5,7 @@ use mathlib.Core.Bool.{or-true, false≢true}
 use native.Mathlib.Nat.{zero-div}
 use lib.ListN.{get_or-replicate, get_or-eq_default}
 use borrow.Author.Tests.{eqb-false}
-use Rattle.srecord.specs.declared.records.Parsed.{Parsed}
+use Rattle.srecord.specs.declared.records.Summary.{Summary}
 use Rattle.srecord.specs.Lines.{cut, lines}
 use Rattle.srecord.specs.Load.{records, writes}
 use Rattle.srecord.specs.Records.{Record, record_of}
@@ -100,7 +100,7 @@ module _ (text : List ℕ) (at next n : ℕ) (line : LineAt text at next) (reach
 
   -- which writes what the code has it write;
   pub writes_at :
-      {limit : ℕ} → AllRead (records text) limit → n < limit → (p : Parsed) → Spans (take (next - at) (drop at text)) p → (a : ℕ) →
+      {limit : ℕ} → AllRead (records text) limit → n < limit → (p : Option Summary) → Spans (take (next - at) (drop at text)) p → (a : ℕ) →
       writes (get_or (records text) n None) a ≡ writes_by p a
   writes_at all less p spans a = go (record_of (take (next - at) (drop at text))) refl
     where

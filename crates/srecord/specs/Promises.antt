@@ -7,20 +7,13 @@ use Rattle.text.specs.Reading.{value}
 use Rattle.text.specs.declared.reading.Letters.TheVariants.{EitherCase}
 use Rattle.text.specs.declared.reading.Read.{Read}
 use Rattle.text.specs.declared.reading.Read.TheVariants as read
-use Rattle.srecord.specs.declared.lines.End.{End}
-use Rattle.srecord.specs.declared.lines.End.TheVariants as end
 use Rattle.srecord.specs.declared.openings.Kind.{Kind}
-use Rattle.srecord.specs.declared.openings.Found.{Found}
-use Rattle.srecord.specs.declared.openings.Found.TheVariants as found
-use Rattle.srecord.specs.declared.records.Parsed.{Parsed}
-use Rattle.srecord.specs.declared.records.Parsed.TheVariants as parsed
+use Rattle.srecord.specs.declared.openings.Opening.{Opening}
 use Rattle.srecord.specs.declared.records.Summary.{Summary}
-use Rattle.srecord.specs.declared.records.Total.{Total}
-use Rattle.srecord.specs.declared.records.Total.TheVariants as total
 use Rattle.srecord.specs.declared.sweep.SoFar.{SoFar}
 use Rattle.srecord.specs.declared.sweep.Swept.{Swept}
 use Rattle.srecord.specs.Lines.{content, lines}
-use Rattle.srecord.specs.Records.{Opening, Record, address, and_then, bytes_of, data_of, fits, is_closing, is_count, is_data, opening_of, record_of}
+use Rattle.srecord.specs.Records.{Record, address, and_then, bytes_of, data_of, fits, is_closing, is_count, is_data, opening_of, record_of}
 use Rattle.srecord.specs.Load.{kind_of, refusal_number, sum, writes}
 
 -- A line of a text: it begins at `at`, and the next one at `next`.
@@ -29,44 +22,17 @@ pub record LineAt (text : List ℕ) (at next : ℕ) : Type 0 where
   pub onward : at < next
   pub within : next ≤ length text
 
--- A line's content ends at a place, or has no end.
-abbrev pub content_by : List ℕ → End → Option (List ℕ)
-content_by line (end.At e) = Some (take e line)
-content_by line end.Missing = None
+-- The byte that a pair of digits makes.
+abbrev pub ByteOf : List ℕ → ℕ → Type 0
+ByteOf pair byte = (n : ℕ) → value EitherCase pair ≡ read.Number n → byte ≡ n
 
-abbrev pub inside_of : List ℕ → End → Type 0
-inside_of line (end.At e) = e ≤ length line
-inside_of line end.Missing = Unit {0}
+-- Pairs of digits make bytes, those from number `at` on.
+abbrev pub Make : List (List ℕ) → List ℕ → ℕ → Type 0
+Make pairs bytes at = (i : ℕ) → i < length pairs → value EitherCase (slice_index_or pairs i []) ≡ read.Number (slice_index bytes (at + i))
 
-pub record EndsAt (line : List ℕ) (e : End) : Type 0 where
-  pub same : content_by line e ≡ content line
-  pub within : inside_of line e
-
--- A line's first two bytes are those of a start.
-abbrev pub begins : List ℕ → List ℕ → Bool
-begins line start = slice_index line 0 == slice_index start 0 && slice_index line 1 == slice_index start 1
-
--- An opening, as the code has it.
-abbrev pub found_of : Option Opening → Found
-found_of None = found.Unknown
-found_of (Some o) = found.Opening o.kind o.width
-
--- The sum of a line's bytes, as the code has it.
-abbrev pub total_of : Option (List ℕ) → Total
-total_of None = total.NotHex
-total_of (Some bytes) = total.Sum (sum bytes % 256)
-
--- The byte that the pair of digits number i makes.
-abbrev pub pair_at : List ℕ → ℕ → Read
-pair_at digits i = value EitherCase (slice_index digits (2 * i) ∷ slice_index digits (2 * i + 1) ∷ [])
-
-abbrev pub ByteAt : List ℕ → ℕ → ℕ → Type 0
-ByteAt digits i byte = (n : ℕ) → pair_at digits i ≡ read.Number n → byte ≡ n
-
--- The number that k of them make from number `at` on.
-pub record NumberAt (digits : List ℕ) (at k n : ℕ) : Type 0 where
-  pub reads : (bytes : List ℕ) → bytes_of digits ≡ Some bytes → n ≡ value_at k bytes at
-  pub small : n < 256 ^ k
+-- The number that pairs of digits make.
+abbrev pub NumberOf : List (List ℕ) → ℕ → Type 0
+NumberOf pairs n = (bytes : List ℕ) (at : ℕ) → Make pairs bytes at → n ≡ value_at (length pairs) bytes at
 
 -- How many of n bytes a line of this kind writes.
 abbrev pub length_for : Kind → ℕ → ℕ
@@ -76,16 +42,11 @@ length_for kind n = cond (is_data kind) n 0
 abbrev pub summary : Record → Summary
 summary r =
     record {
-      kind = kind_of r;
-      width = r.opening.width;
+      opening = r.opening;
       address = address r;
       length = length (data_of r);
       checks = (sum r.bytes % 256 == 0xff);
     }
-
-abbrev pub parsed_of : Option Record → Parsed
-parsed_of None = parsed.Malformed
-parsed_of (Some r) = parsed.Record (summary r)
 
 -- What `record_of` does in turn: with a line's bytes, behind its opening, before its end.
 abbrev pub with_bytes : Opening → Option (List ℕ) → Option Record
@@ -97,18 +58,13 @@ opened x line = and_then x (λ o. with_bytes o (bytes_of (drop 2 line)))
 abbrev pub ended : Option (List ℕ) → Option Record
 ended x = and_then x (λ line. opened (opening_of line) line)
 
--- A line that opens so, read from its digits.
-abbrev pub ReadsRecord : Kind → ℕ → List ℕ → Parsed → Type 0
-ReadsRecord kind width digits r =
-    (start : List ℕ) → r ≡ parsed_of (with_bytes (record { start = start; kind = kind; width = width }) (bytes_of digits))
-
 -- A record's refusal, address written twice left aside, behind `count` data lines, `closed` or not.
 unfoldable pub single_tests : ℕ → Bool → ℕ → Summary → List Test
 single_tests size closed count r =
     test 10 closed
     ∷ test 11 (not r.checks)
     ∷ test 12 (not (r.length == 0) && nat_lt size (r.address + r.length))
-    ∷ test 14 (is_count r.kind && not (r.address == count))
+    ∷ test 14 (is_count r.opening.kind && not (r.address == count))
     ∷ []
 
 -- What is known behind one record more: data lines, whether there was a closing line, the end of the last data, and whether each began at or
@@ -116,8 +72,8 @@ single_tests size closed count r =
 unfoldable pub noted : SoFar → Summary → SoFar
 noted s r =
     record {
-      count = cond (is_data r.kind) (s.count + 1) s.count;
-      closed = is_closing r.kind || s.closed;
+      count = cond (is_data r.opening.kind) (s.count + 1) s.count;
+      closed = is_closing r.opening.kind || s.closed;
       top = cond (r.length == 0) s.top (r.address + r.length);
       ordered = s.ordered && (r.length == 0 || nat_le s.top r.address);
     }
@@ -181,19 +137,18 @@ abbrev pub between : ℕ → ℕ → ℕ → Bool
 between low high a = nat_le low a && nat_lt a high
 
 -- Whether a line, as the code has it, writes an address,
-abbrev pub writes_by : Parsed → ℕ → Bool
-writes_by (parsed.Record r) a = between r.address (r.address + r.length) a
-writes_by parsed.Malformed a = false
+abbrev pub writes_by : Option Summary → ℕ → Bool
+writes_by None a = false
+writes_by (Some r) a = between r.address (r.address + r.length) a
 
 -- and whether it writes the one that is number i of the window at `low`.
-abbrev pub writes_in : ℕ → Parsed → ℕ → Bool
+abbrev pub writes_in : ℕ → Option Summary → ℕ → Bool
 writes_in low line i = writes_by line (low + i)
 
--- The bytes that n pairs of digits make from number `from` on, written from an address on.
-abbrev pub PlacesData : List ℕ → ℕ → ℕ → List ℕ → ℕ → List ℕ → Type 0
-PlacesData digits from n memory address after =
-    (bytes : List ℕ) → length bytes ≡ n → ((i : ℕ) → i < n → pair_at digits (from + i) ≡ read.Number (slice_index bytes i)) →
-    after ≡ sets memory address bytes
+-- The bytes that pairs of digits make, written from an address on.
+abbrev pub PlacesData : List (List ℕ) → List ℕ → ℕ → List ℕ → Type 0
+PlacesData pairs memory address after =
+    (bytes : List ℕ) → length bytes ≡ length pairs → Make pairs bytes 0 → after ≡ sets memory address bytes
 
 -- One line's data written.
 abbrev pub placed_by : List ℕ → Option Record → List ℕ
@@ -201,13 +156,8 @@ placed_by memory None = memory
 placed_by memory (Some r) = sets memory (address r) (data_of r)
 
 -- What a line writes, where it is a record; of another nothing is promised.
-abbrev pub Spans : List ℕ → Parsed → Type 0
+abbrev pub Spans : List ℕ → Option Summary → Type 0
 Spans line p = (r : Record) → record_of line ≡ Some r → (a : ℕ) → writes (Some r) a ≡ writes_by p a
-
-abbrev pub OpenedSpans : Kind → ℕ → List ℕ → Parsed → Type 0
-OpenedSpans kind width line p =
-    (r : Record) → record_of line ≡ Some r → r.opening.kind ≡ kind → r.opening.width ≡ width → (a : ℕ) →
-    writes (Some r) a ≡ writes_by p a
 
 -- The first `lines` lines are records.
 abbrev pub AllRead : List (Option Record) → ℕ → Type 0

@@ -9,6 +9,7 @@ use Rattle.text.specs.declared.reading.Read.{Read}
 use Rattle.text.specs.declared.reading.Read.TheVariants.{Number, NotHex}
 use Rattle.srecord.specs.declared.openings.Kind.{Kind}
 use Rattle.srecord.specs.declared.openings.Kind.TheVariants.{Header, Data, Count, Closing}
+use Rattle.srecord.specs.declared.openings.Opening.{Opening}
 use Rattle.srecord.specs.Lines.{content}
 
 -- What a line is for.
@@ -31,11 +32,6 @@ is_closing Count = false
 is_closing Closing = true
 
 -- One of the "eight byte strings" that open a line, what such a line is for, and how many bytes its address has.
-pub record Opening : Type 0 where
-  pub start : List ℕ
-  pub kind : Kind
-  pub width : ℕ
-
 abbrev opening : String → Kind → ℕ → Opening
 opening start kind width = record { start = ascii start; kind = kind; width = width }
 

@@ -1,13 +1,7 @@
-// Where a line of a text ends (document 02, request One).
-ghost use Rattle.std.specs.Prelude.{◌<◌, length};
-ghost use Rattle.srecord.specs.Promises.{EndsAt, LineAt};
-
-// Where a line's content ends, if the line has an end.
-#[derive(Clone, Copy)]
-pub enum End {
-    At(usize),
-    Missing,
-}
+// A line of a text (document 02, request One).
+ghost use Rattle.std.specs.Prelude.{◌≡◌, ◌<◌, length, option_copied};
+ghost use Rattle.srecord.specs.Lines.{content};
+ghost use Rattle.srecord.specs.Promises.{LineAt};
 
 // The place behind the line that begins at `at`.
 pub fn next(text: &[u8], at: usize) -> usize
@@ -24,22 +18,13 @@ pub fn next(text: &[u8], at: usize) -> usize
     i
 }
 
-// The end is a line feed, with the carriage return before it, if there is one.
-pub fn content_end(line: &[u8]) -> End
-    ensures { EndsAt line.now result }
+// What stands before a line's end.
+#[tactic(auto, unfolding(crate::specs::Lines::content))]
+pub fn content(line: &[u8]) -> Option<&[u8]>
+    ensures { option_copied result ≡ content line.now }
 {
-    let n = line.len();
-    if n == 0 {
-        return End::Missing;
+    match line {
+        [content @ .., b'\r', b'\n'] | [content @ .., b'\n'] => Some(content),
+        _ => None,
     }
-    if line[n - 1] != 10 {
-        return End::Missing;
-    }
-    if n == 1 {
-        return End::At(0);
-    }
-    if line[n - 2] == 13 {
-        return End::At(n - 2);
-    }
-    End::At(n - 1)
 }

@@ -6,7 +6,7 @@ ghost use Rattle.srecord.specs.Records.{is_count, is_data};
 ghost use Rattle.srecord.specs.Promises as Promises;
 
 use crate::openings::Kind;
-use crate::records::{Parsed, Summary};
+use crate::records::Summary;
 use crate::{Refusal, lines, records};
 
 // What is known of the lines so far: data lines, whether one was a closing line, where the last data ended, and whether each began at or
@@ -49,10 +49,9 @@ fn outside(size: usize, r: Summary) -> bool
 }
 
 fn wrong_number(count: usize, r: Summary) -> bool
-    ensures { result ≡ (is_count r.kind && not (r.address == count)) }
+    ensures { result ≡ (is_count r.opening.kind && not (r.address == count)) }
 {
-    let kind = r.kind;
-    kind.is_count() & (r.address as usize != count)
+    (r.opening.kind == Kind::Count) & (r.address as usize != count)
 }
 
 // A record's refusal, address written twice left aside.
@@ -78,10 +77,7 @@ fn count_after(kind: Kind, count: usize) -> usize
     requires { count + 1 < 2 ^ 64 }
     ensures { result ≡ (if is_data kind then count + 1 else count) }
 {
-    if kind.is_data() {
-        return count + 1;
-    }
-    count
+    if kind == Kind::Data { count + 1 } else { count }
 }
 
 fn top_after(top: usize, r: Summary) -> usize
@@ -93,14 +89,15 @@ fn top_after(top: usize, r: Summary) -> usize
     r.address as usize + r.length as usize
 }
 
+#[tactic(auto, unfolding(crate::specs::Promises::noted))]
 fn noted(s: SoFar, r: Summary) -> SoFar
     requires { s.count + 1 < 2 ^ 64 }
     ensures { result ≡ Promises.noted s r }
 {
-    let kind = r.kind;
+    let kind = r.opening.kind;
     SoFar {
         count: count_after(kind, s.count),
-        closed: kind.is_closing() | s.closed,
+        closed: (kind == Kind::Closing) | s.closed,
         top: top_after(s.top, r),
         ordered: s.ordered & ((r.length == 0) | (s.top <= r.address as usize)),
     }
@@ -115,7 +112,7 @@ pub fn sweep(text: &[u8], size: usize) -> Swept
     while at < text.len() {
         let next = lines::next(text, at);
         match records::parse(&text[at..next]) {
-            Parsed::Record(r) => {
+            Some(r) => {
                 let refusal = single(size, s, r);
                 if refusal.number() != 0 {
                     return Swept {
@@ -127,7 +124,7 @@ pub fn sweep(text: &[u8], size: usize) -> Swept
                 }
                 s = noted(s, r);
             }
-            Parsed::Malformed => {
+            None => {
                 return Swept {
                     refusal: Refusal::Line,
                     line: n + 1,

@@ -3,7 +3,7 @@ ghost use Rattle.std.specs.Prelude.{◌≡◌, ◌+◌, ◌≤◌, length};
 ghost use Rattle.srecord.specs.Load.{records};
 ghost use Rattle.srecord.specs.Promises.{AllRead, FirstAgain, Marks, writes_in};
 
-use crate::records::{Parsed, Summary};
+use crate::records::Summary;
 use crate::{lines, marks, records};
 
 // The addresses that are marked at once, a bit each: the marks stay on the stack, with all else in less than 32 KiB.
@@ -12,7 +12,7 @@ const WINDOW: usize = 229376;
 // Marks the addresses that a line's data go to from `low` on, and answers whether one was marked already.
 fn mark_data(marks: &mut [u8], low: usize, r: Summary) -> bool
     requires { (length marks.old ≡ 28672) × (low ≤ 16777216) }
-    ensures { Marks marks.old (writes_in low (Parsed.Record r)) result marks.new }
+    ensures { Marks marks.old (writes_in low (Some r)) result marks.new }
 {
     let begin = r.address as usize;
     let end = begin + r.length as usize;
@@ -31,13 +31,13 @@ fn mark_data(marks: &mut [u8], low: usize, r: Summary) -> bool
     marks::mark(marks, from, to)
 }
 
-fn mark_line(marks: &mut [u8], low: usize, line: Parsed) -> bool
+fn mark_line(marks: &mut [u8], low: usize, line: Option<Summary>) -> bool
     requires { (length marks.old ≡ 28672) × (low ≤ 16777216) }
     ensures { Marks marks.old (writes_in low line) result marks.new }
 {
     match line {
-        Parsed::Record(r) => mark_data(marks, low, r),
-        Parsed::Malformed => false,
+        Some(r) => mark_data(marks, low, r),
+        None => false,
     }
 }
 

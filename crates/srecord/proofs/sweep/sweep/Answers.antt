@@ -9,13 +9,13 @@ returns-then-number-ne0 c =
     let now = c.loop-at in
     sym
     (now.invariant.3
-    ∙ refused c.args.size now.n now.s c.args.text.now now.at _ c.next-next.ensures c.in-Record.ensures c.single-refusal.ensures
+    ∙ refused c.args.size now.n now.s c.args.text.now now.at _ c.next-next.ensures c.in-Some.ensures c.single-refusal.ensures
     (λ zero. c.if-number-ne0.true (c.number.ensures ∙ zero)))
 
-pub returns-in-Malformed : goal.returns-in-Malformed
-returns-in-Malformed c =
+pub returns-in-None : goal.returns-in-None
+returns-in-None c =
     let now = c.loop-at in
-    sym (now.invariant.3 ∙ malformed c.args.size now.n now.s c.args.text.now now.at _ c.next-next.ensures c.in-Malformed.ensures)
+    sym (now.invariant.3 ∙ malformed c.args.size now.n now.s c.args.text.now now.at _ c.next-next.ensures c.in-None.ensures)
 
 pub loop-at-preserved : goal.loop-at-preserved
 loop-at-preserved c =
@@ -23,10 +23,10 @@ loop-at-preserved c =
     let line = c.next-next.ensures in (
       line.within,
       omega (arith, line.onward),
-      rw c.noted-s.ensures (omega (arith, counts_on now.s c.in-Record.r)),
+      rw c.noted-s.ensures (omega (arith, counts_on now.s c.in-Some.r)),
       rw c.noted-s.ensures
           (now.invariant.3
-          ∙ passes c.args.size now.n now.s c.args.text.now now.at _ line c.in-Record.ensures c.single-refusal.ensures
+          ∙ passes c.args.size now.n now.s c.args.text.now now.at _ line c.in-Some.ensures c.single-refusal.ensures
           (sym c.number.ensures ∙ c.if-number-ne0.false)),
     )
 
