@@ -7,8 +7,8 @@ use mathlib.Core.Logic.{inl, inr, ⊎_elim}
 use Prim.Native.Nat.{ℕ, ◌+◌, ◌%◌, ◌^◌, ◌<◌}
 use native.Mathlib.Omega.{arith}
 use lib.ListN.{length, get_or}
-use Rattle.memory.specs.declared.Loaded.TheVariants as loads
-use Rattle.memory.specs.declared.Stored.{Stored}
+use Rattle.std.specs.Prelude.{Some, None, Result, ⊤}
+use Rattle.memory.specs.declared.access.Fault.{Fault}
 use Rattle.memory.specs.Access.{accessible, value_at, loaded, written, stored_at, Stores}
 use Rattle.memory.proofs.Tests.{inside}
 use Rattle.memory.proofs.Bytes.{Bytes, Apart, length_written, written_elsewhere, written_bytes, value_same, value_written, value_small}
@@ -48,7 +48,7 @@ module _ (k : ℕ) (memory : List ℕ) (address value : ℕ) where
   accessible_after_store j other = rw store_keeps_length
 
   pub load_after_store :
-      accessible k memory address ≡ true → loaded k (stored_at k memory address value) address ≡ loads.Value (value % 256 ^ k)
+      accessible k memory address ≡ true → loaded k (stored_at k memory address value) address ≡ Some (value % 256 ^ k)
   unfolding loaded
   load_after_store passed =
       rw (
@@ -70,15 +70,15 @@ module _ (k : ℕ) (memory : List ℕ) (address value : ℕ) where
 
   -- Any two results that a store may have coincide.
   pub store_determined :
-      (a b : Stored) (l m : List ℕ) → Stores k memory address value a l → Stores k memory address value b m → (a ≡ b) × (l ≡ m)
+      (a b : Result ⊤ Fault) (l m : List ℕ) → Stores k memory address value a l → Stores k memory address value b m → (a ≡ b) × (l ≡ m)
   store_determined a b l m s t = (determined s.answers t.answers, determined s.leaves t.leaves)
 
-given_small : (test : Bool) (b n v : ℕ) → n < b → cond test (loads.Value n) loads.Fault ≡ loads.Value v → v < b
+given_small : (test : Bool) (b n v : ℕ) → n < b → cond test (Some n) None ≡ Some v → v < b
 given_small true b n v small given = let same : n ≡ v = cc in omega arith
 given_small false b n v small given = let never : ◌≡◌ {A = ℕ} 0 1 = cc in omega arith
 
 pub load_small :
-    (k : ℕ) (memory : List ℕ) (address v : ℕ) → Bytes memory → loaded k memory address ≡ loads.Value v → v < 256 ^ k
+    (k : ℕ) (memory : List ℕ) (address v : ℕ) → Bytes memory → loaded k memory address ≡ Some v → v < 256 ^ k
 unfolding loaded
 load_small k memory address v bytes given =
     given_small (accessible k memory address) (256 ^ k) (value_at k memory address) v

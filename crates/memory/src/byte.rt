@@ -1,37 +1,29 @@
 // An access of one byte, at any address (document 01, "Memory").
-ghost use Rattle.std.specs.Prelude.{◌≡◌};
-ghost use Rattle.memory.specs.Access.{accessible, loaded, Stores};
+ghost use lib.Bits.{and_mask};
 
-use crate::{Loaded, Stored, read, write};
+use crate::{Access, read_byte, write_byte};
 
 #[derive(Clone, Copy)]
 pub struct Byte;
 
-impl Byte {
-    pub fn accessible(memory: &[u8], address: u32) -> bool
-        ensures { result ≡ accessible 1 memory.now address }
-    {
-        address as usize + 1 <= memory.len()
+impl Access for Byte {
+    const BYTES: u32 = 1;
+
+    const ALIGNMENT_MASK: u32 = 0;
+
+    ghost BYTES = { 1 };
+
+    ghost ALIGNMENT_MASK = { 0 };
+
+    ghost mask_tells_multiples = { λ address. and_mask address 0 };
+
+    #[tactic(auto, unfolding(crate::specs::Access::value_at))]
+    fn read(memory: &[u8], at: usize) -> u32 {
+        read_byte(memory, at)
     }
 
-    pub fn load(memory: &[u8], address: u32) -> Loaded
-        ensures { result ≡ loaded 1 memory.now address }
-    {
-        if Self::accessible(memory, address) {
-            Loaded::Value(read(memory, address as usize))
-        } else {
-            Loaded::Fault
-        }
-    }
-
-    pub fn store(memory: &mut [u8], address: u32, value: u32) -> Stored
-        ensures { Stores 1 memory.old address value result memory.new }
-    {
-        if Self::accessible(memory, address) {
-            write(memory, address as usize, (value % 256) as u8);
-            Stored::Done
-        } else {
-            Stored::Fault
-        }
+    #[tactic(auto, unfolding(crate::specs::Access::written))]
+    fn write(memory: &mut [u8], at: usize, value: u32) {
+        write_byte(memory, at, (value % 256) as u8);
     }
 }

@@ -1,19 +1,27 @@
 // Which lengths of a memory are refused (document 01, "Memory" and "Refusals of a call").
 ghost use Rattle.std.specs.Prelude.{◌≡◌};
-ghost use Rattle.memory.specs.Lengths.{refused_length};
+ghost use Rattle.memory.specs.Lengths.{length_number, refused_length};
 
-// Document 01's number of the refusal, and 0 where the length is accepted.
-pub fn refused_length(length: usize) -> u32
-    ensures { result ≡ refused_length length }
+// Document 01's refusals for a length, by their numbers.
+#[derive(Clone, Copy, Debug, PartialEq, Eq)]
+pub enum BadLength {
+    // The length is not a multiple of 4.
+    Ragged = 1,
+    // It is below 1,024 or above 16,777,216.
+    Size = 2,
+}
+
+pub fn check_length(length: usize) -> Result<(), BadLength>
+    ensures { length_number result ≡ refused_length length }
 {
     if length % 4 != 0 {
-        return 1;
+        return Err(BadLength::Ragged);
     }
     if length < 1024 {
-        return 2;
+        return Err(BadLength::Size);
     }
     if length > 16777216 {
-        return 2;
+        return Err(BadLength::Size);
     }
-    0
+    Ok(())
 }

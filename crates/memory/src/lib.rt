@@ -4,31 +4,19 @@
 ghost use Rattle.std.specs.Prelude.{◌≡◌, ◌<◌, length};
 ghost use Rattle.memory.specs.Access.{put, ByteAt};
 
+mod access;
 mod byte;
 mod lengths;
 mod long;
 mod word;
 
+pub use access::{Access, Fault};
 pub use byte::Byte;
-pub use lengths::refused_length;
+pub use lengths::{BadLength, check_length};
 pub use long::Long;
 pub use word::Word;
 
-// What a load answers. A value is not extended: a byte is below H'100, a word below H'10000.
-#[derive(Clone, Copy)]
-pub enum Loaded {
-    Value(u32),
-    Fault,
-}
-
-// What a store answers. One that faults has changed nothing.
-#[derive(Clone, Copy)]
-pub enum Stored {
-    Done,
-    Fault,
-}
-
-fn read(memory: &[u8], at: usize) -> u32
+fn read_byte(memory: &[u8], at: usize) -> u32
     requires { at < length memory.now }
     ensures { ByteAt memory.now at result }
 {
@@ -36,7 +24,8 @@ fn read(memory: &[u8], at: usize) -> u32
 }
 
 // Every byte that a store changes is changed here: the one place that says which bytes may change.
-fn write(memory: &mut [u8], at: usize, byte: u8)
+#[tactic(auto, unfolding(crate::specs::Access::put))]
+fn write_byte(memory: &mut [u8], at: usize, byte: u8)
     requires { at < length memory.old }
     ensures { memory.new ≡ put memory.old at byte }
 {

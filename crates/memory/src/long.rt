@@ -1,49 +1,34 @@
 // An access of four bytes, at a multiple of 4 (document 01, "Memory").
-ghost use Rattle.std.specs.Prelude.{◌≡◌};
-ghost use Rattle.memory.specs.Access.{accessible, loaded, Stores};
+ghost use lib.Bits.{and_mask};
 
-use crate::{Loaded, Stored, read, write};
+use crate::{Access, read_byte, write_byte};
 
 #[derive(Clone, Copy)]
 pub struct Long;
 
-impl Long {
-    pub const ALIGNMENT_MASK: u32 = 3;
+impl Access for Long {
+    const BYTES: u32 = 4;
 
-    pub fn accessible(memory: &[u8], address: u32) -> bool
-        ensures { result ≡ accessible 4 memory.now address }
-    {
-        if address & Self::ALIGNMENT_MASK != 0 {
-            return false;
-        }
-        address as usize + 4 <= memory.len()
+    const ALIGNMENT_MASK: u32 = 3;
+
+    ghost BYTES = { 4 };
+
+    ghost ALIGNMENT_MASK = { 3 };
+
+    ghost mask_tells_multiples = { λ address. and_mask address 2 };
+
+    #[tactic(auto, unfolding(crate::specs::Access::value_at))]
+    fn read(memory: &[u8], at: usize) -> u32 {
+        let high = read_byte(memory, at) * 256 + read_byte(memory, at + 1);
+        let low = read_byte(memory, at + 2) * 256 + read_byte(memory, at + 3);
+        high * 65536 + low
     }
 
-    pub fn load(memory: &[u8], address: u32) -> Loaded
-        ensures { result ≡ loaded 4 memory.now address }
-    {
-        if Self::accessible(memory, address) {
-            let at = address as usize;
-            let high = read(memory, at) * 256 + read(memory, at + 1);
-            let low = read(memory, at + 2) * 256 + read(memory, at + 3);
-            Loaded::Value(high * 65536 + low)
-        } else {
-            Loaded::Fault
-        }
-    }
-
-    pub fn store(memory: &mut [u8], address: u32, value: u32) -> Stored
-        ensures { Stores 4 memory.old address value result memory.new }
-    {
-        if Self::accessible(memory, address) {
-            let at = address as usize;
-            write(memory, at, (value / 16777216 % 256) as u8);
-            write(memory, at + 1, (value / 65536 % 256) as u8);
-            write(memory, at + 2, (value / 256 % 256) as u8);
-            write(memory, at + 3, (value % 256) as u8);
-            Stored::Done
-        } else {
-            Stored::Fault
-        }
+    #[tactic(auto, unfolding(crate::specs::Access::written))]
+    fn write(memory: &mut [u8], at: usize, value: u32) {
+        write_byte(memory, at, (value / 16777216 % 256) as u8);
+        write_byte(memory, at + 1, (value / 65536 % 256) as u8);
+        write_byte(memory, at + 2, (value / 256 % 256) as u8);
+        write_byte(memory, at + 3, (value % 256) as u8);
     }
 }
