@@ -1,4 +1,5 @@
 pub mod Figures
 pub mod Filling
+pub mod Numbers
 pub mod Values
 pub mod Writes

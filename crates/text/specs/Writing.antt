@@ -1,5 +1,6 @@
 -- Writing into a lent buffer: as much as it holds, from where the writing stands. What the functions that write promise.
 use Rattle.std.specs.Prelude.{◌≡◌, cond, List, [], ◌∷◌, ℕ, ◌+◌, ltb, length, set}
+use Rattle.text.specs.declared.pages.Page as lent
 
 -- A buffer's bytes, and the place of the next one.
 pub record Page : Type 0 where
@@ -16,6 +17,11 @@ unfoldable pub write : List ℕ → Page → Page
 write [] p = p
 write (byte ∷ text) p = write text (put byte p)
 
--- What a function that writes this text promises of the buffer and of the place that it answers.
-abbrev pub Writes : List ℕ → List ℕ → ℕ → List ℕ → ℕ → Type 0
-Writes text before at after end = page after end ≡ write text (page before at)
+-- A page as the code has it.
+abbrev pub seen : lent.Page → Page
+seen p = page p.buffer.now p.place
+
+-- What a function that writes this text promises: the page is that of the same buffer still.
+pub record Writes (text : List ℕ) (before after : lent.Page) : Type 0 where
+  pub same_buffer : after.buffer.ghost_name ≡ before.buffer.ghost_name
+  pub wrote : seen after ≡ write text (seen before)

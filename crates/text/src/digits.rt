@@ -3,7 +3,7 @@ ghost use Rattle.std.specs.Prelude.{◌≡◌, ◌<◌};
 ghost use Rattle.text.specs.Text as Text;
 ghost use Rattle.text.specs.Writing.{Writes};
 
-use crate::pages::put;
+use crate::pages::Page;
 
 // The case of the letters a to f.
 #[derive(Clone, Copy)]
@@ -17,43 +17,45 @@ fn digit(case: Case, d: u32) -> u8
     ensures { result ≡ Text.digit case d }
 {
     if d < 10 {
-        return 48 + d as u8;
+        return b'0' + d as u8;
     }
     match case {
-        Case::Lower => 87 + d as u8,
-        Case::Upper => 55 + d as u8,
+        Case::Lower => b'a' + (d - 10) as u8,
+        Case::Upper => b'A' + (d - 10) as u8,
     }
 }
 
-// The last k hexadecimal digits.
-pub fn hex_in(buffer: &mut [u8], at: usize, case: Case, k: u32, n: u32) -> usize
-    ensures { Writes (Text.hex_in case k n) buffer.old at buffer.new result }
-{
-    if k == 0 {
-        return at;
+impl Page<'_> {
+    // The last k hexadecimal digits.
+    #[tactic(auto, using(crate::proofs::Numbers::no_hex))]
+    pub fn hex_in(&mut self, case: Case, k: u32, n: u32)
+        ensures { Writes (Text.hex_in case k n) self.old self.new }
+    {
+        if k > 0 {
+            self.hex_in(case, k - 1, n / 16);
+            self.put(digit(case, n % 16));
+        }
     }
-    let place = hex_in(buffer, at, case, k - 1, n / 16);
-    put(buffer, place, digit(case, n % 16))
-}
 
-// The same in lower case.
-pub fn hex(buffer: &mut [u8], at: usize, k: u32, n: u32) -> usize
-    ensures { Writes (Text.hex k n) buffer.old at buffer.new result }
-{
-    hex_in(buffer, at, Case::Lower, k, n)
-}
+    // The same in lower case.
+    pub fn hex(&mut self, k: u32, n: u32)
+        ensures { Writes (Text.hex k n) self.old self.new }
+    {
+        self.hex_in(Case::Lower, k, n);
+    }
 
-// Decimal, of at most k digits.
-#[tactic(auto, using(crate::proofs::Figures::decimal_one))]
-pub fn decimal(buffer: &mut [u8], at: usize, k: u32, n: u32) -> usize
-    ensures { Writes (Text.decimal k n) buffer.old at buffer.new result }
-{
-    if k == 0 {
-        return at;
+    // Decimal, of at most k digits.
+    #[tactic(auto, using(crate::proofs::Numbers::no_decimal, crate::proofs::Numbers::decimal_one))]
+    pub fn decimal(&mut self, k: u32, n: u32)
+        ensures { Writes (Text.decimal k n) self.old self.new }
+    {
+        if k == 0 {
+            return;
+        }
+        if n < 10 {
+            return self.put(b'0' + n as u8);
+        }
+        self.decimal(k - 1, n / 10);
+        self.put(b'0' + (n % 10) as u8);
     }
-    if n < 10 {
-        return put(buffer, at, 48 + n as u8);
-    }
-    let place = decimal(buffer, at, k - 1, n / 10);
-    put(buffer, place, 48 + (n % 10) as u8)
 }

@@ -5,6 +5,6 @@ mod digits;
 mod pages;
 mod reading;
 
-pub use digits::{Case, decimal, hex, hex_in};
-pub use pages::write;
-pub use reading::{Letters, Read, digit_value, hex_value, is_digit, value_of_digit};
+pub use digits::Case;
+pub use pages::Page;
+pub use reading::{Letters, digit_value, hex_value, is_digit, value_of_digit};

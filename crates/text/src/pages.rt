@@ -2,25 +2,31 @@
 ghost use Rattle.std.specs.Prelude.{[], ◌∷◌};
 ghost use Rattle.text.specs.Writing.{Writes};
 
-// Writes one byte, where there is room, and answers the place of the next.
-pub fn put(buffer: &mut [u8], at: usize, byte: u8) -> usize
-    ensures { Writes (byte ∷ []) buffer.old at buffer.new result }
-{
-    if at < buffer.len() {
-        buffer[at] = byte;
-        return at + 1;
-    }
-    at
+// A lent buffer, and the place of the next byte.
+#[derive(Drop)]
+pub struct Page<'a> {
+    pub buffer: &'a mut [u8],
+    pub place: usize,
 }
 
-pub fn write(buffer: &mut [u8], at: usize, text: &[u8]) -> usize
-    ensures { Writes text.now buffer.old at buffer.new result }
-{
-    let mut place = at;
-    let mut i = 0;
-    while i < text.len() {
-        place = put(buffer, place, text[i]);
-        i += 1;
+impl Page<'_> {
+    // Writes one byte, where there is room.
+    #[tactic(auto, unfolding(crate::specs::Writing::write))]
+    pub fn put(&mut self, byte: u8)
+        ensures { Writes (byte ∷ []) self.old self.new }
+    {
+        if self.place < self.buffer.len() {
+            self.buffer[self.place] = byte;
+            self.place += 1;
+        }
     }
-    place
+
+    #[tactic(auto, using(crate::proofs::Writes::nothing, crate::proofs::Writes::one_more))]
+    pub fn write(&mut self, text: &[u8])
+        ensures { Writes text.now self.old self.new }
+    {
+        for byte in text {
+            self.put(*byte);
+        }
+    }
 }

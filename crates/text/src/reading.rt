@@ -1,5 +1,5 @@
 // Hexadecimal, read.
-ghost use Rattle.std.specs.Prelude.{◌≡◌};
+ghost use Rattle.std.specs.Prelude.{◌≡◌, is_some};
 ghost use Rattle.text.specs.Reading as Reading;
 
 // Whether the letters A to F are read besides a to f.
@@ -9,72 +9,47 @@ pub enum Letters {
     EitherCase,
 }
 
-// What was read: a number, or a text that is not one.
-#[derive(Clone, Copy)]
-pub enum Read {
-    Number(u32),
-    NotHex,
-}
-
 fn between(first: u8, last: u8, byte: u8) -> bool
     ensures { result ≡ Reading.between first last byte }
 {
     first <= byte && byte <= last
 }
 
-pub fn digit_value(letters: Letters, byte: u8) -> Read
+// None where the byte is no digit that these letters allow.
+#[tactic(auto, unfolding(crate::specs::Reading::digit_value))]
+pub fn digit_value(letters: Letters, byte: u8) -> Option<u32>
     ensures { result ≡ Reading.digit_value letters byte }
 {
-    if between(48, 57, byte) {
-        return Read::Number(byte as u32 - 48);
-    }
-    if between(97, 102, byte) {
-        return Read::Number(byte as u32 - 87);
-    }
-    match letters {
-        Letters::LowerCase => Read::NotHex,
-        Letters::EitherCase => {
-            if between(65, 70, byte) {
-                return Read::Number(byte as u32 - 55);
-            }
-            Read::NotHex
-        }
+    match byte {
+        b'0'..=b'9' => Some((byte - b'0') as u32),
+        b'a'..=b'f' => Some((byte - b'a') as u32 + 10),
+        b'A'..=b'F' => match letters {
+            Letters::LowerCase => None,
+            Letters::EitherCase => Some((byte - b'A') as u32 + 10),
+        },
+        _ => None,
     }
 }
 
 // The k digits at a place.
-pub fn hex_value(text: &[u8], at: usize, letters: Letters, k: usize) -> Read
+pub fn hex_value(text: &[u8], at: usize, letters: Letters, k: usize) -> Option<u32>
     ensures { result ≡ Reading.cut_to_long (Reading.digits_at letters text.now at k) }
 {
-    if text.len() < at {
-        return Read::NotHex;
-    }
-    if text.len() - at < k {
-        return Read::NotHex;
-    }
+    let digits = text.get(at..)?.get(..k)?;
     let mut n: u32 = 0;
-    let mut i = 0;
-    while i < k {
-        let digit = digit_value(letters, text[at + i]);
-        match digit {
-            Read::Number(d) => {
-                n = n % 0x1000_0000 * 16 + d;
-            }
-            Read::NotHex => {
-                return Read::NotHex;
-            }
-        }
-        i += 1;
+    for byte in digits {
+        n = n % 0x1000_0000 * 16 + digit_value(letters, *byte)?;
     }
-    Read::Number(n)
+    Some(n)
 }
 
 // Whether a byte is a digit, and its value if it is one, in either case: both without a branch, since the digits of a text mislead a
 // processor that guesses.
+#[tactic(auto, using(crate::proofs::Values::one_of_three))]
 pub fn is_digit(byte: u8) -> bool
-    ensures { result ≡ Reading.is_number (Reading.digit_value Letters.EitherCase byte) }
+    ensures { result ≡ is_some (Reading.digit_value Letters.EitherCase byte) }
 {
-    between(48, 57, byte) | between(97, 102, byte) | between(65, 70, byte)
+    between(b'0', b'9', byte) | between(b'a', b'f', byte) | between(b'A', b'F', byte)
 }
 
 pub fn value_of_digit(byte: u8) -> u32

@@ -1,34 +1,30 @@
 -- What `hex_value` has still to read, behind the number so far, gives what the k digits give.
 -- Assumes nothing.
-use Rattle.std.proofs.Common.{◌+◌, ◌<◌, ◌≤◌, ◌∙◌, length, arith}
-use borrow.Author.Tests.{le-ltb}
-use Rattle.text.proofs.Values.{breaks_off, digit_small, ends, reads_on}
+use Rattle.std.proofs.Common.{◌∙◌, sym, ap, arith}
+use Rattle.text.specs.Reading.{cut_to_long}
+use Rattle.text.proofs.Values.{breaks_off, cut_out, digit_small, ends, reads_on}
 use Rattle.text.proofs.reading.hex_value.Goals as goal
 
+pub loop-byte-init : goal.loop-byte-init
+loop-byte-init c =
+    let rest = c.in_ok-get.ensures.lookup.0 in
+    let digits = c.in_ok-digits.ensures.lookup.0 in
+    let a = c.args in
+    (omega arith, sym (ap cut_to_long (cut_out a.letters a.text.now _ _ a.at a.k rest.0 rest.2 digits.1 digits.2)))
+
+pub returns-in_err-n : goal.returns-in_err-n
+returns-in_err-n c =
+    c.from_residual-in_err-n.ensures ∙ breaks_off _ _ c.loop-byte.byte-index c.loop-byte.n c.loop-byte-test.true c.in_err-n.ensures
+    ∙ c.loop-byte.invariant.1
+
 pub overflow_add-n : goal.overflow_add-n
-overflow_add-n c = omega (arith, digit_small _ _ c.in-Number.ensures)
+overflow_add-n c = omega (arith, digit_small _ _ c.in_ok-n.ensures)
 
-pub returns-in-NotHex : goal.returns-in-NotHex
-returns-in-NotHex c =
-    let a = c.args in
-    let now = c.loop-i in
-    let more : now.i < a.k = omega arith in
-    let fits : a.at + a.k ≤ length a.text.now = omega arith in
-    rw (le-ltb _ _ fits) (breaks_off _ a.text.now a.at a.k now.i now.n more (omega arith) c.in-NotHex.ensures ∙ now.invariant.2)
-
-pub loop-i-preserved : goal.loop-i-preserved
-loop-i-preserved c =
-    let a = c.args in
-    let now = c.loop-i in
-    let more : now.i < a.k = omega arith in (
-      omega arith,
-      omega (arith, digit_small _ _ c.in-Number.ensures),
-      reads_on _ a.text.now a.at a.k now.i now.n more (omega arith) c.in-Number.ensures ∙ now.invariant.2,
-    )
+pub loop-byte-preserved : goal.loop-byte-preserved
+loop-byte-preserved c = (
+  omega (arith, digit_small _ _ c.in_ok-n.ensures),
+  reads_on _ _ c.loop-byte.byte-index c.loop-byte.n c.loop-byte-test.true c.in_ok-n.ensures ∙ c.loop-byte.invariant.1,
+)
 
 pub returns : goal.returns
-returns c =
-    let a = c.args in
-    let now = c.loop-i in
-    let fits : a.at + a.k ≤ length a.text.now = omega arith in
-    rw (le-ltb _ _ fits) (ends _ a.text.now a.at a.k now.i now.n c.loop-i-test.false now.invariant.1 ∙ now.invariant.2)
+returns c = ends _ _ _ _ c.loop-byte-test.false c.loop-byte.invariant.0 ∙ c.loop-byte.invariant.1
