@@ -1,6 +1,6 @@
 -- Laws of lines: a text cut byte by byte from where a line begins.
 -- Assumes nothing.
-use Rattle.std.proofs.Common.{◌≡◌, ℕ, suc, ◌+◌, ◌-◌, ◌<◌, ◌≤◌, List, [], ◌∷◌, ◌++◌, length, get_or, take, drop, add-one, arith, drop_of_length-le, length-take-le, get_or-drop, drop-cons, get_or-take, take-suc, take-take, eq-eqb, ne_eqb, None, Some}
+use Rattle.std.proofs.Common.{◌≡◌, ℕ, suc, ◌+◌, ◌-◌, ◌<◌, ◌≤◌, List, [], ◌∷◌, ◌++◌, length, get_or, take, drop, add-one, arith, drop_of_length-le, length-take-le, get_or-drop, drop-cons, take-suc, eq-eqb, ne_eqb}
 use native.Mathlib.Nat.{sub_self}
 use Rattle.srecord.specs.Lines.{cut, lines}
 

@@ -1,37 +1,33 @@
 -- What loading leaves: one result, a refused text changes no byte, bytes that no line names keep their value, and each that a line names is
 -- that line's, since an accepted text names none twice.
 -- Assumes nothing.
-use Rattle.std.proofs.Common.{◌≡◌, ℕ, zero, suc, ◌+◌, ◌-◌, ◌<◌, ◌≤◌, Bool, true, false, cond, eqb, List, [], ◌∷◌, length, get_or, set, sym, refl, ap, ◌∙◌, true≢false, not-suc-le-zero, arith, length-set, get_or-set_other, get_or-set_same, ne_eqb, eqb-true, Option, None, Some}
+use Rattle.std.proofs.Common.{◌≡◌, ℕ, zero, suc, ◌+◌, ◌-◌, ◌<◌, ◌≤◌, Bool, true, false, cond, eqb, List, [], ◌∷◌, length, get_or, set, sym, refl, ap, ◌∙◌, true≢false, not-suc-le-zero, arith, length-set, get_or-set_other, get_or-set_same, ne_eqb, eqb-true, Option, None, Some, Result, Err}
+use Rattle.std.specs.Bool.{⊤}
 use mathlib.Core.Bool.{or-true}
 use borrow.Author.Tests.{eqb-false}
 use lib.Seq.{length-sets, sets}
 use Rattle.memory.specs.Lengths.{first, refused_length}
-use Rattle.srecord.specs.Load.{Loads, Verdict, end_of, judged, memory_after, refusal_number, writes}
+use Rattle.srecord.specs.Load.{Loads, Verdict, end_of, judged, memory_after, writes}
 use Rattle.srecord.specs.Load.{placed, record_tests, records, share, verdict, verdict_on, written_twice}
 use Rattle.srecord.specs.Promises.{}
 use Rattle.srecord.specs.Records.{Record, address, data_of}
-use Rattle.srecord.specs.declared.Loaded.{Loaded}
+use Rattle.srecord.specs.declared.Refused.{Refused}
 use Rattle.srecord.proofs.Addresses.{inside, shares, written}
 use Rattle.srecord.proofs.LineTests.{accepted_line}
-use Rattle.srecord.proofs.Refusals.{refusal_determined}
+use Rattle.srecord.proofs.Refusals.{some_number, told_determined}
 
 module _ (text memory : List ℕ) where
   pub load_determined :
-      (a b : Loaded) (after other : List ℕ) → Loads text memory a after → Loads text memory b other → (a ≡ b) × (after ≡ other)
-  load_determined a b after other p q =
-      let same = p.answers ∙ sym q.answers in
-      let why = refusal_determined a.refusal b.refusal (ap (λ (v : Verdict). v.number) same) in
-      let line = ap (λ (v : Verdict). v.line) same in
-      (λ i. record { refusal = why i; line = line i }, p.leaves ∙ sym q.leaves)
+      (a b : Result ⊤ Refused) (after other : List ℕ) → Loads text memory a after → Loads text memory b other → (a ≡ b) × (after ≡ other)
+  load_determined a b after other p q = (told_determined a b (p.answers ∙ sym q.answers), p.leaves ∙ sym q.leaves)
 
   pub refused_changes_nothing : ((verdict_on text (length memory)).number ≡ 0 → ⊥) → memory_after text memory ≡ memory
   refused_changes_nothing h = rw (ne_eqb (verdict_on text (length memory)).number 0 h)
 
   -- The same of any answer that the promise allows.
-  pub refused_load_changes_nothing :
-      (answer : Loaded) (after : List ℕ) → Loads text memory answer after → (refusal_number answer.refusal ≡ 0 → ⊥) → after ≡ memory
-  refused_load_changes_nothing answer after done refused =
-      done.leaves ∙ refused_changes_nothing (λ e. refused (ap (λ (v : Verdict). v.number) done.answers ∙ e))
+  pub refused_load_changes_nothing : (why : Refused) (after : List ℕ) → Loads text memory (Err why) after → after ≡ memory
+  refused_load_changes_nothing why after done =
+      done.leaves ∙ refused_changes_nothing (λ e. some_number why.refusal (ap (λ (v : Verdict). v.number) done.answers ∙ e))
 
 -- Bytes behind each other: those at other addresses stay, and the others are theirs.
 kept_beside :
@@ -142,7 +138,7 @@ module _ (text memory : List ℕ) where
       go false = refl
 
   pub unnamed_keeps_in_load :
-      (answer : Loaded) (after : List ℕ) → Loads text memory answer after → (a : ℕ) →
+      (answer : Result ⊤ Refused) (after : List ℕ) → Loads text memory answer after → (a : ℕ) →
       ((i : ℕ) → writes (get_or (records text) i None) a ≡ false) → get_or after a 0 ≡ get_or memory a 0
   unnamed_keeps_in_load answer after done a unnamed = rw done.leaves (unnamed_keeps a unnamed)
 

@@ -6,14 +6,12 @@ use lib.ListN.{get_or-eq_default}
 use lib.Seq.{drop-length}
 use Rattle.memory.specs.Access.{value_at}
 use Rattle.memory.proofs.Bytes.{Bytes}
-use Rattle.text.specs.Reading.{and_then, digit_value, is_number, read_on, value}
+use Rattle.text.specs.Reading.{digit_value, read_on, value}
 use Rattle.text.specs.declared.reading.Letters.TheVariants.{EitherCase}
-use Rattle.text.specs.declared.reading.Read.{Read}
-use Rattle.text.specs.declared.reading.Read.TheVariants.{Number, NotHex}
 use Rattle.text.proofs.Values.{ValueOfDigit, digit_small}
 use Rattle.srecord.specs.Records.{before, bytes_of}
 use Rattle.srecord.specs.Load.{sum}
-use Rattle.std.specs.Option.{option_map}
+use Rattle.std.specs.Option.{is_some, option_and_then, option_map}
 use Rattle.std.specs.Simd.{first_chunks}
 use Rattle.srecord.specs.Promises.{ByteOf, Make}
 
@@ -21,34 +19,34 @@ pub never : {A : Type 0} {a : A} → None ≡ Some a → ⊥
 never e = let z : ◌≡◌ {A = ℕ} 0 1 = cc in omega arith
 
 -- A pair's byte, by its two digits.
-abbrev pub joined : Read → Read → Read
-joined (Number h) (Number l) = Number (h * 16 + l)
-joined (Number h) NotHex = NotHex
-joined NotHex l = NotHex
+abbrev pub joined : Option ℕ → Option ℕ → Option ℕ
+joined (Some h) (Some l) = Some (h * 16 + l)
+joined (Some h) None = None
+joined None l = None
 
 pub of_two : (a b : ℕ) → value EitherCase (a ∷ b ∷ []) ≡ joined (digit_value EitherCase a) (digit_value EitherCase b)
 unfolding read_on
 of_two a b = go (digit_value EitherCase a) (digit_value EitherCase b)
   where
-    go : (h l : Read) → and_then h (λ m. and_then l (λ n. Number ((0 * 16 + m) * 16 + n))) ≡ joined h l
-    go (Number h) (Number l) = ap Number (omega arith)
-    go (Number h) NotHex = refl
-    go NotHex l = refl
+    go : (h l : Option ℕ) → option_and_then (λ m. option_and_then (λ n. Some ((0 * 16 + m) * 16 + n)) l) h ≡ joined h l
+    go (Some h) (Some l) = ap Some (omega arith)
+    go (Some h) None = refl
+    go None l = refl
 
 -- A pair that is read, in front of bytes that are.
 module _ (h l : ℕ) (rest bytes : List ℕ) where
   taken_apart :
       bytes_of (h ∷ l ∷ rest) ≡ Some bytes →
-      (b : ℕ) × (more : List ℕ) × (bytes ≡ b ∷ more) × (value EitherCase (h ∷ l ∷ []) ≡ Number b) × (bytes_of rest ≡ Some more)
+      (b : ℕ) × (more : List ℕ) × (bytes ≡ b ∷ more) × (value EitherCase (h ∷ l ∷ []) ≡ Some b) × (bytes_of rest ≡ Some more)
   unfolding bytes_of
   taken_apart = go (value EitherCase (h ∷ l ∷ [])) (bytes_of rest)
     where
       go :
-          (r : Read) (o : Option (List ℕ)) → before r o ≡ Some bytes →
-          (b : ℕ) × (more : List ℕ) × (bytes ≡ b ∷ more) × (r ≡ Number b) × (o ≡ Some more)
-      go (Number b) (Some more) e = (b, more, cc, refl, refl)
-      go (Number b) None e = absurd (never e)
-      go NotHex o e = absurd (never e)
+          (r : Option ℕ) (o : Option (List ℕ)) → before r o ≡ Some bytes →
+          (b : ℕ) × (more : List ℕ) × (bytes ≡ b ∷ more) × (r ≡ Some b) × (o ≡ Some more)
+      go (Some b) (Some more) e = (b, more, cc, refl, refl)
+      go (Some b) None e = absurd (never e)
+      go None o e = absurd (never e)
 
 pub twice_as_long : (digits bytes : List ℕ) → bytes_of digits ≡ Some bytes → length digits ≡ 2 * length bytes
 unfolding bytes_of
@@ -63,7 +61,7 @@ abbrev pub pair_at : List ℕ → ℕ → List ℕ
 pair_at digits i = get_or digits (2 * i) 0 ∷ get_or digits (2 * i + 1) 0 ∷ []
 
 pub pair_of :
-    (digits bytes : List ℕ) → bytes_of digits ≡ Some bytes → (i : ℕ) → i < length bytes → value EitherCase (pair_at digits i) ≡ Number (get_or bytes i 0)
+    (digits bytes : List ℕ) → bytes_of digits ≡ Some bytes → (i : ℕ) → i < length bytes → value EitherCase (pair_at digits i) ≡ Some (get_or bytes i 0)
 unfolding bytes_of
 pair_of [] bytes e i inside = let same : bytes ≡ [] = cc in absurd (not-suc-le-zero (rw same at inside))
 pair_of (a ∷ []) bytes e i inside = absurd (never e)
@@ -84,18 +82,18 @@ two_digits (a ∷ b ∷ x ∷ rest) two = absurd (omega arith)
 -- The byte of a pair of digits, by the digits' values.
 module _ (a b : ℕ) where
   by_values :
-      (n : ℕ) → value EitherCase (a ∷ b ∷ []) ≡ Number n →
-      (h : ℕ) × (l : ℕ) × (digit_value EitherCase a ≡ Number h) × (digit_value EitherCase b ≡ Number l) × (n ≡ h * 16 + l)
+      (n : ℕ) → value EitherCase (a ∷ b ∷ []) ≡ Some n →
+      (h : ℕ) × (l : ℕ) × (digit_value EitherCase a ≡ Some h) × (digit_value EitherCase b ≡ Some l) × (n ≡ h * 16 + l)
   by_values n e = go (digit_value EitherCase a) (digit_value EitherCase b) (sym (of_two a b) ∙ e)
     where
       go :
-          (r s : Read) → joined r s ≡ Number n →
-          (h : ℕ) × (l : ℕ) × (r ≡ Number h) × (s ≡ Number l) × (n ≡ h * 16 + l)
-      go (Number h) (Number l) e = (h, l, refl, refl, cc)
-      go (Number h) NotHex e = let z : ◌≡◌ {A = ℕ} 0 1 = cc in absurd (omega arith)
-      go NotHex s e = let z : ◌≡◌ {A = ℕ} 0 1 = cc in absurd (omega arith)
+          (r s : Option ℕ) → joined r s ≡ Some n →
+          (h : ℕ) × (l : ℕ) × (r ≡ Some h) × (s ≡ Some l) × (n ≡ h * 16 + l)
+      go (Some h) (Some l) e = (h, l, refl, refl, cc)
+      go (Some h) None e = let z : ◌≡◌ {A = ℕ} 0 1 = cc in absurd (omega arith)
+      go None s e = let z : ◌≡◌ {A = ℕ} 0 1 = cc in absurd (omega arith)
 
-  pub pair_small : (n : ℕ) → value EitherCase (a ∷ b ∷ []) ≡ Number n → n < 256
+  pub pair_small : (n : ℕ) → value EitherCase (a ∷ b ∷ []) ≡ Some n → n < 256
   pair_small n e =
       let v = by_values n e in
       let high = digit_small EitherCase a (sym v.2) in
@@ -103,7 +101,7 @@ module _ (a b : ℕ) where
       omega (arith, v.4)
 
   pub pair_value :
-      {h l : ℕ} → ValueOfDigit a h → ValueOfDigit b l → (n : ℕ) → value EitherCase (a ∷ b ∷ []) ≡ Number n → (h * 16 + l) % 256 ≡ n
+      {h l : ℕ} → ValueOfDigit a h → ValueOfDigit b l → (n : ℕ) → value EitherCase (a ∷ b ∷ []) ≡ Some n → (h * 16 + l) % 256 ≡ n
   pair_value {h} {l} high low n e =
       let v = by_values n e in
       let small = pair_small n e in
@@ -147,25 +145,25 @@ module _ (digits : List ℕ) (s i : ℕ) (good : Bool) (done : 2 * i ≡ length 
 
 pub one_pair :
     (a b : ℕ) (rest : List ℕ) {h l : ℕ} → ValueOfDigit a h → ValueOfDigit b l → (good : Bool) (s : ℕ) →
-    with_rest ((good && is_number (digit_value EitherCase a)) && is_number (digit_value EitherCase b)) ((s + (h * 16 + l)) % 2 ^ 32) (bytes_of rest) ≡
+    with_rest ((good && is_some (digit_value EitherCase a)) && is_some (digit_value EitherCase b)) ((s + (h * 16 + l)) % 2 ^ 32) (bytes_of rest) ≡
     with_rest good s (bytes_of (a ∷ b ∷ rest))
 unfolding bytes_of
 one_pair a b rest {h} {l} high low good s =
     rw (of_two a b) (go (digit_value EitherCase a) (digit_value EitherCase b) (bytes_of rest) good high low)
   where
     go :
-        (r t : Read) (o : Option (List ℕ)) (good : Bool) → ((d : ℕ) → r ≡ Number d → h ≡ d) → ((d : ℕ) → t ≡ Number d → l ≡ d) →
-        with_rest ((good && is_number r) && is_number t) ((s + (h * 16 + l)) % 2 ^ 32) o ≡ with_rest good s (before (joined r t) o)
-    go (Number x) (Number y) (Some bytes) true p q =
+        (r t : Option ℕ) (o : Option (List ℕ)) (good : Bool) → ((d : ℕ) → r ≡ Some d → h ≡ d) → ((d : ℕ) → t ≡ Some d → l ≡ d) →
+        with_rest ((good && is_some r) && is_some t) ((s + (h * 16 + l)) % 2 ^ 32) o ≡ with_rest good s (before (joined r t) o)
+    go (Some x) (Some y) (Some bytes) true p q =
         let hx = p x refl in let ly = q y refl in rw (hx, ly) (ap Some (omega arith))
-    go (Number x) (Number y) (Some bytes) false p q = refl
-    go (Number x) (Number y) None good p q = refl
-    go (Number x) NotHex (Some bytes) true p q = refl
-    go (Number x) NotHex (Some bytes) false p q = refl
-    go (Number x) NotHex None good p q = refl
-    go NotHex t (Some bytes) true p q = refl
-    go NotHex t (Some bytes) false p q = refl
-    go NotHex t None good p q = refl
+    go (Some x) (Some y) (Some bytes) false p q = refl
+    go (Some x) (Some y) None good p q = refl
+    go (Some x) None (Some bytes) true p q = refl
+    go (Some x) None (Some bytes) false p q = refl
+    go (Some x) None None good p q = refl
+    go None t (Some bytes) true p q = refl
+    go None t (Some bytes) false p q = refl
+    go None t None good p q = refl
 
 -- An odd number of digits makes no bytes.
 pub odd : (digits : List ℕ) → (length digits % 2 ≡ 0 → ⊥) → None ≡ total_of (bytes_of digits)
@@ -199,7 +197,7 @@ pair_among (suc n) (a ∷ b ∷ digits) (suc i) room inside d =
 -- They make the bytes that the digits make,
 pub pairs_make :
     (digits bytes : List ℕ) → bytes_of digits ≡ Some bytes → (i : ℕ) → i < length bytes →
-    value EitherCase (get_or (first_chunks 2 (length digits / 2) digits) i []) ≡ Number (get_or bytes i 0)
+    value EitherCase (get_or (first_chunks 2 (length digits / 2) digits) i []) ≡ Some (get_or bytes i 0)
 pairs_make digits bytes known i inside =
     let long = twice_as_long digits bytes known in
     rw (pair_among (length digits / 2) digits i (omega arith) (omega (arith, long)) []) (pair_of digits bytes known i inside)
@@ -207,7 +205,7 @@ pairs_make digits bytes known i inside =
 -- and a part of them makes a part of these.
 pub part_makes :
     (pairs : List (List ℕ)) (bytes : List ℕ) (n : ℕ) →
-    ((i : ℕ) → i < n → value EitherCase (get_or pairs i []) ≡ Number (get_or bytes i 0)) → (from to : ℕ) → to ≤ n →
+    ((i : ℕ) → i < n → value EitherCase (get_or pairs i []) ≡ Some (get_or bytes i 0)) → (from to : ℕ) → to ≤ n →
     Make (take (to - from) (drop from pairs)) bytes from
 part_makes pairs bytes n make from to few i inside =
     let part : i < to - from = omega (arith, length-take (to - from) (drop from pairs)) in

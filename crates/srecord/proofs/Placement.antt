@@ -1,21 +1,20 @@
 -- Laws of data written into the memory, byte by byte and line by line.
 -- Assumes nothing.
-use Rattle.std.proofs.Common.{◌≡◌, ℕ, suc, ◌+◌, ◌-◌, ◌*◌, ◌/◌, ◌<◌, ◌≤◌, Bool, true, false, cond, eqb, List, [], ◌∷◌, map, length, get_or, take, drop, set, sym, refl, ap, ◌∙◌, le_refl, not-suc-le-zero, add-zero, add-one, arith, length-drop, drop_of_length-le, length-take, length-take-le, get_or-drop, take_all, drop-cons, get_or-take, take-take, take-add, drop_at, eqb-true, Option, None, Some}
+use Rattle.std.proofs.Common.{◌≡◌, ℕ, suc, ◌+◌, ◌-◌, ◌*◌, ◌/◌, ◌<◌, ◌≤◌, Bool, true, false, cond, eqb, List, [], ◌∷◌, map, length, get_or, take, drop, set, sym, refl, ap, ◌∙◌, le_refl, add-zero, add-one, arith, length-drop, drop_of_length-le, length-take, length-take-le, get_or-drop, take_all, drop-cons, get_or-take, take-take, eqb-true, Option, None, Some}
 use mathlib.Core.Bool.{and-eq-true_iff}
 use lib.Seq.{sets}
 use Rattle.std.specs.List.{slice_get}
 use Rattle.std.specs.Simd.{first_chunks}
 use Rattle.text.specs.Reading.{value}
 use Rattle.text.specs.declared.reading.Letters.TheVariants.{EitherCase}
-use Rattle.text.specs.declared.reading.Read.TheVariants.{Number}
 use Rattle.srecord.specs.Lines.{content, cut, ends_in, without_last}
 use Rattle.srecord.specs.Load.{placed, records}
 use Rattle.srecord.specs.Records.{Record, and_then, address, bytes_of, carried, data_for, data_of, fits, may, opening_of, record_of}
-use Rattle.srecord.specs.Promises.{ByteOf, LineAt, Make, NumberOf, PlacesData, length_for, placed_by, summary, with_bytes}
+use Rattle.srecord.specs.Promises.{ByteOf, LineAt, Make, NumberOf, PlacesData, length_for, placed_by, with_bytes}
 use Rattle.srecord.specs.declared.openings.Kind.{Kind}
 use Rattle.srecord.specs.declared.openings.Kind.TheVariants.{Header, Data, Count, Closing}
 use Rattle.srecord.specs.declared.openings.Opening.{Opening}
-use Rattle.srecord.proofs.Pairs.{never, pair_at, pair_of, pair_among, part_makes, twice_as_long}
+use Rattle.srecord.proofs.Pairs.{never, pair_of, pair_among, part_makes, twice_as_long}
 use Rattle.srecord.proofs.Summaries.{Cut, first_pair, length_for_data, may_least, no_pair, number_length}
 
 -- What is left to write of the bytes that pairs of digits make, behind the first i.
@@ -163,7 +162,7 @@ module _ (line : List ℕ) (r : Record) (is : record_of line ≡ Some r) where
     enough : length r.bytes ≤ length pairs
     enough = omega (arith, digits_end, cut.many, length-drop 2 line, read.1)
 
-    pub line_pairs : (i : ℕ) → i < length r.bytes → value EitherCase (get_or pairs i []) ≡ Number (get_or r.bytes i 0)
+    pub line_pairs : (i : ℕ) → i < length r.bytes → value EitherCase (get_or pairs i []) ≡ Some (get_or r.bytes i 0)
     line_pairs i inside =
         let among = pair_among (length (drop 2 line) / 2) (drop 2 line) i (omega arith) (omega (arith, enough, cut.many)) [] in
         rw (cut.front, among, alike (2 * i) (omega (arith, digits_end)), alike (2 * i + 1) (omega (arith, digits_end)))
@@ -201,7 +200,7 @@ module _ (line : List ℕ) (r : Record) (is : record_of line ≡ Some r) where
 
         go :
             (kind : Kind) (i : ℕ) → i < length (part (length (data_for kind (carried r)))) →
-            value EitherCase (get_or (part (length (data_for kind (carried r)))) i []) ≡ Number (get_or (data_for kind (carried r)) (0 + i) 0)
+            value EitherCase (get_or (part (length (data_for kind (carried r)))) i []) ≡ Some (get_or (data_for kind (carried r)) (0 + i) 0)
         go Header i inside = absurd (nothing i inside)
         go Data i inside =
             let n = get_or r.bytes 0 0 - least in

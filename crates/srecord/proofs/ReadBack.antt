@@ -9,7 +9,6 @@ use Rattle.text.specs.Reading.{value}
 use Rattle.text.specs.Text.{ascii, digit, hex_in, line_feed}
 use Rattle.text.specs.declared.digits.Case.TheVariants.{Upper}
 use Rattle.text.specs.declared.reading.Letters.TheVariants.{EitherCase}
-use Rattle.text.specs.declared.reading.Read.TheVariants.{Number}
 use Rattle.srecord.specs.declared.openings.Kind.TheVariants.{Data, Closing}
 use Rattle.srecord.specs.Export.{bytes_in, check_byte, counted, line_of, pairs}
 use Rattle.srecord.specs.Lines.{content, cut}
@@ -68,8 +67,8 @@ pub bytes_back : (bytes : List ℕ) → Bytes bytes → bytes_of (pairs bytes) �
 unfolding bytes_of pairs hex_in
 bytes_back [] small = refl
 bytes_back (byte ∷ bytes) small =
-    let this : value EitherCase (hex_in Upper 2 byte) ≡ Number byte =
-    read_back EitherCase Upper refl 2 byte ∙ ap Number (mod-eq_of_lt (small 0)) in
+    let this : value EitherCase (hex_in Upper 2 byte) ≡ Some byte =
+    read_back EitherCase Upper refl 2 byte ∙ ap Some (mod-eq_of_lt (small 0)) in
     rw (this, bytes_back bytes (λ i. small (suc i)))
 
 -- Count, address, data and check byte of a line.

@@ -1,6 +1,7 @@
 -- What marks tell of the lines passed so far, and the first line that writes an address again.
 -- Assumes nothing.
-use Rattle.std.proofs.Common.{◌≡◌, ℕ, ◌+◌, ◌-◌, ◌/◌, ◌%◌, ◌^◌, ◌<◌, ◌≤◌, Bool, true, false, eqb, ltb, List, ◌∷◌, map, length, get_or, take, drop, replicate, sym, refl, ap, ◌∙◌, not-suc-le-zero, add-zero, lt_irrefl, arith, length-drop, drop_of_length-le, get_or-drop, drop-drop, ltb-false, ltb-true, eqb-true, Option, None, Some}
+use Rattle.std.proofs.Common.{◌≡◌, ℕ, ◌+◌, ◌-◌, ◌/◌, ◌%◌, ◌^◌, ◌<◌, ◌≤◌, Bool, true, false, eqb, ltb, List, ◌∷◌, map, length, get_or, take, drop, replicate, sym, refl, ap, ◌∙◌, not-suc-le-zero, add-zero, lt_irrefl, arith, length-drop, drop_of_length-le, get_or-drop, drop-drop, ltb-false, ltb-true, eqb-true, Option, None, Some, unwrap_or}
+use Rattle.std.specs.Option.{option_or}
 use mathlib.Core.Bool.{or-true, false≢true}
 use native.Mathlib.Nat.{zero-div}
 use lib.ListN.{get_or-replicate, get_or-eq_default}
@@ -9,7 +10,7 @@ use Rattle.srecord.specs.declared.records.Summary.{Summary}
 use Rattle.srecord.specs.Lines.{cut, lines}
 use Rattle.srecord.specs.Load.{records, writes}
 use Rattle.srecord.specs.Records.{Record, record_of}
-use Rattle.srecord.specs.Promises.{Again, AllRead, FirstAgain, LineAt, Marks, Once, Spans, marked, writes_by}
+use Rattle.srecord.specs.Promises.{Again, AllRead, Finds, FirstAgain, LineAt, Marks, Once, Spans, marked, writes_by}
 
 -- One of the first n lines writes an address.
 pub record Written (lines : List (Option Record)) (n a : ℕ) : Type 0 where
@@ -122,18 +123,21 @@ lines_end text at n over reached =
 
 module _ (lines : List (Option Record)) {low n limit : ℕ} {marks : List ℕ} (p : Passed lines low n marks) where
   -- The limit is reached.
-  pub all_passed : n ≡ limit → FirstAgain lines limit low (low + 229376) limit
+  pub all_passed : n ≡ limit → Finds lines limit low (low + 229376) None
   all_passed reached =
-      record { within = omega arith; once = rw (← reached) p.once; again = λ less. absurd (lt_irrefl _ less) }
+      record {
+        first = record { within = omega arith; once = rw (← reached) p.once; again = λ less. absurd (lt_irrefl _ less) };
+        below = tt;
+      }
 
   -- The line at hand is the first.
-  pub first_here : n < limit → Again lines n → FirstAgain lines limit low (low + 229376) n
-  first_here less again = record { within = omega arith; once = p.once; again = λ _. again }
+  pub first_here : n < limit → Again lines n → Finds lines limit low (low + 229376) (Some n)
+  first_here less again = record { first = record { within = omega arith; once = p.once; again = λ _. again }; below = less }
 
   -- There is no line more.
-  pub none_left : length lines ≤ n → FirstAgain lines limit low (low + 229376) limit
+  pub none_left : length lines ≤ n → Finds lines limit low (low + 229376) None
   none_left over =
-      record { within = omega arith; once = once; again = λ less. absurd (lt_irrefl _ less) }
+      record { first = record { within = omega arith; once = once; again = λ less. absurd (lt_irrefl _ less) }; below = tt }
     where
       once : Once lines limit low (low + 229376)
       once i j a less last from to first second = go (ltb j n) refl
@@ -179,3 +183,20 @@ module _ (lines : List (Option Record)) where
       again false e less =
           let same : first ≡ second = omega (arith, ltb-false second first e, g.within) in
           rw same at (f.again (rw same less))
+
+  -- Window by window, with the line that was found, if one was.
+  pub no_window : (limit : ℕ) → Finds lines limit 0 0 None
+  no_window limit = record { first = first_nowhere limit 0; below = tt }
+
+  pub next_window :
+      {limit low high : ℕ} (found more : Option ℕ) → Finds lines limit 0 low found → Finds lines (unwrap_or found limit) low high more →
+      Finds lines limit 0 high (option_or more found)
+  next_window found None f g = record { first = first_in_both f.first g.first; below = f.below }
+  next_window {limit} found (Some n) f g =
+      record { first = first_in_both f.first g.first; below = omega (arith, f.first.within, g.below) }
+
+  pub windows_done : {limit low size : ℕ} (found : Option ℕ) → Finds lines limit 0 low found → size ≤ low → Finds lines limit 0 size found
+  windows_done found f over = record { first = first_in_part f.first over; below = f.below }
+
+  pub fewer_read : {limit low high : ℕ} (found : Option ℕ) → Finds lines limit low high found → AllRead lines limit → AllRead lines (unwrap_or found limit)
+  fewer_read found f all i less = all i (omega (arith, f.first.within))

@@ -1,24 +1,23 @@
 -- What `export` writes, `load` takes back: into every memory of the same length, to the same bytes. (`Bytes`: each is below 256, as in
 -- every lent memory.)
 -- Assumes nothing.
-use Rattle.std.proofs.Common.{◌≡◌, ℕ, zero, suc, ◌+◌, ◌/◌, ◌%◌, ◌^◌, ◌<◌, ◌≤◌, min, max, Bool, true, false, cond, ◌&&◌, eqb, ltb, List, [], ◌∷◌, ◌++◌, length, take, drop, sym, refl, ap, ◌∙◌, subst, append_assoc, le_trans, arith, length-append, length-drop, take-append-drop, length-take, le-ltb, eq-eqb, Option, Some}
+use Rattle.std.proofs.Common.{◌≡◌, ℕ, zero, suc, ◌+◌, ◌/◌, ◌%◌, ◌^◌, ◌<◌, ◌≤◌, min, max, Bool, true, false, cond, ◌&&◌, eqb, ltb, List, [], ◌∷◌, ◌++◌, length, take, drop, sym, refl, ap, ◌∙◌, subst, append_assoc, le_trans, arith, length-append, length-drop, take-append-drop, length-take, le-ltb, eq-eqb, Option, Some, Result, Ok}
+use Rattle.std.specs.Bool.{⊤}
 use lib.Seq.{drop-append-add, sets, sets-eq, take-append_seam}
 use Rattle.memory.proofs.Acceptance.{accepted_size}
 use Rattle.memory.proofs.Bytes.{Bytes}
 use Rattle.memory.specs.Access.{value_at}
 use Rattle.memory.specs.Lengths.{first, refused_length}
 use Rattle.text.specs.Text.{ascii}
-use Rattle.srecord.specs.declared.Exported.{Exported}
-use Rattle.srecord.specs.declared.Loaded.{Loaded}
-use Rattle.srecord.specs.declared.Refusal.TheVariants.{Accepted}
+use Rattle.srecord.specs.declared.Refused.{Refused}
 use Rattle.srecord.specs.Export.{Exports, s3_lines, exported, line_of, refused_export}
 use Rattle.srecord.specs.Load.{Loads, Verdict, closed, end_of, judged, kind_of, memory_after, placed, record_tests, records}
-use Rattle.srecord.specs.Load.{refusal_number, sum, verdict, verdict_on, written_twice}
+use Rattle.srecord.specs.Load.{sum, verdict, verdict_on, written_twice}
 use Rattle.srecord.specs.Records.{Record, address, data_of, is_count}
 use Rattle.srecord.proofs.Exports.{length_accepted}
 use Rattle.srecord.proofs.ReadBack.{address_back, bytes_drop, bytes_take, closing_line, closing_opening}
 use Rattle.srecord.proofs.ReadBack.{data_kept, data_line, data_opening, record_with, sum_back}
-use Rattle.srecord.proofs.Refusals.{refusal_determined}
+use Rattle.srecord.proofs.Refusals.{told_determined}
 
 -- The records end at or before an address.
 abbrev Below : ℕ → List Record → Type 0
@@ -185,20 +184,15 @@ round_trip m other bytes accepted same =
 
 -- In the words of the two promises: what an export has written, a load takes, and leaves the exported memory.
 pub loads_back :
-    (m buffer other : List ℕ) (e : Exported) (l : Loaded) (written after : List ℕ) → Bytes m → length other ≡ length m →
-    Exports m buffer e written → e.refusal ≡ Accepted → Loads (take e.length written) other l after →
-    (l ≡ record { refusal = Accepted; line = 0 }) × (after ≡ m)
-loads_back m buffer other e l written after bytes same exports accepted loads =
+    (m buffer other : List ℕ) (n : ℕ) (l : Result ⊤ Refused) (written after : List ℕ) → Bytes m → length other ≡ length m →
+    Exports m buffer (Ok n) written → Loads (take n written) other l after → (l ≡ Ok tt) × (after ≡ m)
+loads_back m buffer other n l written after bytes same exports loads =
     let text = exported m in
-    let passed : refused_export m buffer ≡ 0 = sym exports.refuses ∙ ap refusal_number accepted in
-    let yes : eqb (refused_export m buffer) 0 ≡ true = eq-eqb _ _ passed in
-    let long : e.length ≡ length text = exports.counts ∙ ap (λ (t : Bool). cond t (length text) 0) yes in
+    let none_given : refused_export m buffer ≡ 0 = sym exports.refuses in
+    let yes : eqb (refused_export m buffer) 0 ≡ true = eq-eqb _ _ none_given in
     let all : written ≡ text ++ drop (length text) buffer =
     exports.leaves ∙ ap (λ (t : Bool). cond t (text ++ drop (length text) buffer) buffer) yes in
-    let same_text : take e.length written ≡ text = rw (long, all) (take-append_seam text (drop (length text) buffer)) in
+    let same_text : take n written ≡ text = rw (exports.counts, all) (take-append_seam text (drop (length text) buffer)) in
     let back : Loads text other l after = subst (λ (t : List ℕ). Loads t other l after) same_text loads in
-    let trip = round_trip m other bytes (length_accepted m buffer passed) same in
-    let told = back.answers ∙ trip.0 in
-    let why : l.refusal ≡ Accepted = refusal_determined l.refusal Accepted (ap (λ (v : Verdict). v.number) told) in
-    let where-told : l.line ≡ 0 = ap (λ (v : Verdict). v.line) told in
-    (λ i. record { refusal = why i; line = where-told i }, back.leaves ∙ trip.1)
+    let trip = round_trip m other bytes (length_accepted m buffer none_given) same in
+    (told_determined l (Ok tt) (back.answers ∙ trip.0), back.leaves ∙ trip.1)

@@ -7,7 +7,6 @@ use Rattle.std.specs.Simd.{first_chunks}
 use Rattle.memory.specs.Access.{value_at}
 use Rattle.text.specs.Reading.{value}
 use Rattle.text.specs.declared.reading.Letters.TheVariants.{EitherCase}
-use Rattle.text.specs.declared.reading.Read.TheVariants.{Number}
 use Rattle.srecord.specs.Records.{Record, bytes_of, carried, data_for, fits, may}
 use Rattle.srecord.specs.Load.{sum}
 use Rattle.srecord.specs.Promises.{ByteOf, NumberOf, length_for, summary, with_bytes}
@@ -58,7 +57,7 @@ module _ {digits bytes : List ℕ} {pairs : List (List ℕ)} (cut : Cut digits p
   as_many : length pairs ≡ length bytes
   as_many = omega (arith, cut.many, twice_as_long digits bytes known)
 
-  make : (i : ℕ) → i < length bytes → value EitherCase (get_or pairs i []) ≡ Number (get_or bytes i 0)
+  make : (i : ℕ) → i < length bytes → value EitherCase (get_or pairs i []) ≡ Some (get_or bytes i 0)
   make i inside = rw cut.front (pairs_make digits bytes known i inside)
 
   pub first_byte : {p : List ℕ} (b : ℕ) → Some p ≡ slice_get pairs 0 → ByteOf p b → b ≡ get_or bytes 0 0

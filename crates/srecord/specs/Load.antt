@@ -1,17 +1,16 @@
 -- Loading a text into a memory: document 02, request One. The refusals in its order, and the memory after.
-use Rattle.std.specs.Prelude.{◌≡◌, ℕ, ◌+◌, ◌%◌, min, max, Bool, true, false, cond, not, ◌&&◌, ◌||◌, List, [], ◌∷◌, map, length, ◌==◌, nat_le, nat_lt, Option, None, Some}
+use Rattle.std.specs.Prelude.{◌≡◌, ℕ, ◌+◌, ◌%◌, min, max, Bool, true, false, cond, not, ◌&&◌, ◌||◌, List, [], ◌∷◌, map, length, ◌==◌, nat_le, nat_lt, Option, None, Some, Result, Ok, Err, ⊤}
 use Rattle.std.proofs.lemmas.List.Edits.{sets}
 use Rattle.memory.specs.Lengths.{Test, first, refused_length, test}
-use Rattle.srecord.specs.declared.Loaded.{Loaded}
 use Rattle.srecord.specs.declared.Refusal.{Refusal}
-use Rattle.srecord.specs.declared.Refusal.TheVariants.{Accepted, Ragged, Size, Line, Check, Outside, Twice, Number, Unclosed, Room}
+use Rattle.srecord.specs.declared.Refusal.TheVariants.{Ragged, Size, Line, Check, Outside, Twice, Number, Unclosed, Room}
+use Rattle.srecord.specs.declared.Refused.{Refused}
 use Rattle.srecord.specs.declared.openings.Kind.{Kind}
 use Rattle.srecord.specs.Lines.{lines}
 use Rattle.srecord.specs.Records.{Record, address, data_of, is_closing, is_count, is_data, record_of}
 
--- The paper's number of a refusal; 0 for none.
+-- The paper's number of a refusal,
 abbrev pub refusal_number : Refusal → ℕ
-refusal_number Accepted = 0
 refusal_number Ragged = 1
 refusal_number Size = 2
 refusal_number Line = 10
@@ -21,6 +20,11 @@ refusal_number Twice = 13
 refusal_number Number = 14
 refusal_number Unclosed = 15
 refusal_number Room = 16
+
+-- and of an answer: 0 where it is none.
+abbrev pub number_of : {A : Type 0} → Result A Refusal → ℕ
+number_of (Ok x) = 0
+number_of (Err refusal) = refusal_number refusal
 
 abbrev pub sum : List ℕ → ℕ
 sum [] = 0
@@ -85,6 +89,10 @@ pub record Verdict : Type 0 where
 abbrev pub verdict : ℕ → ℕ → Verdict
 verdict number line = record { number = number; line = line }
 
+abbrev pub told : Result ⊤ Refused → Verdict
+told (Ok done) = verdict 0 0
+told (Err r) = verdict (refusal_number r.refusal) r.line
+
 -- Line by line from line n on: the first bad line decides. 15: "at the end .. no closing line"
 unfoldable pub judged : ℕ → ℕ → List Record → List (Option Record) → Verdict
 judged size n earlier [] = cond (closed earlier) (verdict 0 0) (verdict 15 0)
@@ -111,6 +119,6 @@ abbrev pub memory_after : List ℕ → List ℕ → List ℕ
 memory_after text memory = cond ((verdict_on text (length memory)).number == 0) (placed memory (records text)) memory
 
 -- What `load` promises: the paper's number, the line, and every byte of the memory.
-pub record Loads (text memory : List ℕ) (answer : Loaded) (after : List ℕ) : Type 0 where
-  pub answers : verdict (refusal_number answer.refusal) answer.line ≡ verdict_on text (length memory)
+pub record Loads (text memory : List ℕ) (answer : Result ⊤ Refused) (after : List ℕ) : Type 0 where
+  pub answers : told answer ≡ verdict_on text (length memory)
   pub leaves : after ≡ memory_after text memory

@@ -1,20 +1,19 @@
 -- What the inner functions promise. `Loads` and `Exports` do not use it: none of it need be believed.
-use Rattle.std.specs.Prelude.{◌≡◌, ℕ, ◌+◌, ◌*◌, ◌/◌, ◌%◌, ◌^◌, ◌<◌, ◌≤◌, Bool, true, false, cond, not, ◌&&◌, ◌||◌, List, [], ◌∷◌, length, take, drop, ◌==◌, ◌≢◌, nat_le, nat_lt, slice_index, slice_index_or, slice_range, Option, None, Some}
+use Rattle.std.specs.Prelude.{◌≡◌, ℕ, ◌+◌, ◌/◌, ◌%◌, ◌^◌, ◌<◌, ◌≤◌, Bool, true, false, cond, not, ◌&&◌, ◌||◌, List, [], ◌∷◌, length, drop, ◌==◌, ◌≢◌, nat_le, nat_lt, slice_index, slice_index_or, slice_range, Option, None, Some, Result, Ok, Err, IfSome, unwrap_or}
 use Rattle.std.proofs.lemmas.List.Edits.{sets}
 use Rattle.memory.specs.Access.{value_at}
 use Rattle.memory.specs.Lengths.{Test, first, test}
 use Rattle.text.specs.Reading.{value}
 use Rattle.text.specs.declared.reading.Letters.TheVariants.{EitherCase}
-use Rattle.text.specs.declared.reading.Read.{Read}
-use Rattle.text.specs.declared.reading.Read.TheVariants as read
+use Rattle.srecord.specs.declared.Refusal.{Refusal}
 use Rattle.srecord.specs.declared.openings.Kind.{Kind}
 use Rattle.srecord.specs.declared.openings.Opening.{Opening}
 use Rattle.srecord.specs.declared.records.Summary.{Summary}
 use Rattle.srecord.specs.declared.sweep.SoFar.{SoFar}
 use Rattle.srecord.specs.declared.sweep.Swept.{Swept}
-use Rattle.srecord.specs.Lines.{content, lines}
+use Rattle.srecord.specs.Lines.{lines}
 use Rattle.srecord.specs.Records.{Record, address, and_then, bytes_of, data_of, fits, is_closing, is_count, is_data, opening_of, record_of}
-use Rattle.srecord.specs.Load.{kind_of, refusal_number, sum, writes}
+use Rattle.srecord.specs.Load.{refusal_number, sum, told, writes}
 
 -- A line of a text: it begins at `at`, and the next one at `next`.
 pub record LineAt (text : List ℕ) (at next : ℕ) : Type 0 where
@@ -24,11 +23,11 @@ pub record LineAt (text : List ℕ) (at next : ℕ) : Type 0 where
 
 -- The byte that a pair of digits makes.
 abbrev pub ByteOf : List ℕ → ℕ → Type 0
-ByteOf pair byte = (n : ℕ) → value EitherCase pair ≡ read.Number n → byte ≡ n
+ByteOf pair byte = (n : ℕ) → value EitherCase pair ≡ Some n → byte ≡ n
 
 -- Pairs of digits make bytes, those from number `at` on.
 abbrev pub Make : List (List ℕ) → List ℕ → ℕ → Type 0
-Make pairs bytes at = (i : ℕ) → i < length pairs → value EitherCase (slice_index_or pairs i []) ≡ read.Number (slice_index bytes (at + i))
+Make pairs bytes at = (i : ℕ) → i < length pairs → value EitherCase (slice_index_or pairs i []) ≡ Some (slice_index bytes (at + i))
 
 -- The number that pairs of digits make.
 abbrev pub NumberOf : List (List ℕ) → ℕ → Type 0
@@ -95,11 +94,20 @@ swept size n s (Some r ∷ rest) =
     let number = first (single_tests size s.closed s.count (summary r)) in
     cond (number == 0) (swept size (n + 1) (noted s (summary r)) rest) (finding number (n + 1) n s.ordered)
 
+-- What is known behind a line, where it passes by itself, or the number of its refusal.
+abbrev pub alone : ℕ → SoFar → Option Record → ℕ
+alone size s None = 10
+alone size s (Some r) = first (single_tests size s.closed s.count (summary r))
+
+abbrev pub Behind : ℕ → SoFar → Option Record → Result SoFar Refusal → Type 0
+Behind size s line (Err refusal) = (refusal_number refusal ≡ alone size s line) × (refusal_number refusal ≢ 0)
+Behind size s line (Ok after) = (r : Record) × (line ≡ Some r) × (alone size s line ≡ 0) × (after ≡ noted s (summary r))
+
 abbrev pub fresh : SoFar
 fresh = record { count = 0; closed = false; top = 0; ordered = true }
 
 abbrev pub finding_of : Swept → Finding
-finding_of s = finding (refusal_number s.refusal) s.line s.passed s.ordered
+finding_of s = let v = told s.verdict in finding v.number v.line s.passed s.ordered
 
 -- Of the first `lines` lines no two write one address from `low` to below `high`.
 abbrev pub Once : List (Option Record) → ℕ → ℕ → ℕ → Type 0
@@ -121,6 +129,11 @@ pub record FirstAgain (records : List (Option Record)) (limit low high line : �
   pub within : line ≤ limit
   pub once : Once records line low high
   pub again : line < limit → Again records line
+
+-- The first line that writes an address again, where there is one.
+pub record Finds (records : List (Option Record)) (limit low high : ℕ) (found : Option ℕ) : Type 0 where
+  pub first : FirstAgain records limit low high (unwrap_or found limit)
+  pub below : IfSome found (λ line. line < limit)
 
 -- A mark: bit i % 8 of byte i / 8.
 unfoldable pub marked : List ℕ → ℕ → Bool

@@ -5,8 +5,6 @@ use Rattle.memory.specs.Access.{value_at}
 use Rattle.text.specs.Reading.{value}
 use Rattle.text.specs.Text.{ascii}
 use Rattle.text.specs.declared.reading.Letters.TheVariants.{EitherCase}
-use Rattle.text.specs.declared.reading.Read.{Read}
-use Rattle.text.specs.declared.reading.Read.TheVariants.{Number, NotHex}
 use Rattle.srecord.specs.declared.openings.Kind.{Kind}
 use Rattle.srecord.specs.declared.openings.Kind.TheVariants.{Header, Data, Count, Closing}
 use Rattle.srecord.specs.declared.openings.Opening.{Opening}
@@ -62,10 +60,10 @@ unfoldable pub opening_of : List ℕ → Option Opening
 opening_of line = among openings (take 2 line)
 
 -- A byte in front of others, where all of them were read.
-abbrev pub before : Read → Option (List ℕ) → Option (List ℕ)
-before (Number byte) (Some bytes) = Some (byte ∷ bytes)
-before (Number byte) None = None
-before NotHex bytes = None
+abbrev pub before : Option ℕ → Option (List ℕ) → Option (List ℕ)
+before (Some byte) (Some bytes) = Some (byte ∷ bytes)
+before (Some byte) None = None
+before None bytes = None
 
 -- The bytes that pairs of hexadecimal digits make, "read in either case"; none where the text is anything else.
 unfoldable pub bytes_of : List ℕ → Option (List ℕ)

@@ -8,8 +8,7 @@ ghost use Rattle.srecord.specs.Export.{Exports, line_of, memory_lines};
 ghost use Rattle.srecord.specs.Load as Load;
 ghost use Rattle.srecord.specs.Promises.{Places};
 
-use crate::{Exported, Refusal, openings};
-use std::num::wrapping_add_u8;
+use crate::{Refusal, openings};
 
 // A digit's character without a branch, since the digits of a memory mislead a processor that guesses: between 9 and A stand seven others.
 fn digit(d: u8) -> u8
@@ -24,12 +23,9 @@ fn pairs(buffer: &mut [u8], at: usize, bytes: &[u8])
     requires { at + 2 * length bytes.now ≤ length buffer.old }
     ensures { buffer.new ≡ sets buffer.old at (Export.pairs bytes.now) }
 {
-    let mut i = 0;
-    while i < bytes.len() {
-        let byte = bytes[i];
-        buffer[at + 2 * i] = digit(byte / 16);
-        buffer[at + 2 * i + 1] = digit(byte % 16);
-        i += 1;
+    for (i, byte) in bytes.iter().enumerate() {
+        buffer[at + 2 * i] = digit(*byte / 16);
+        buffer[at + 2 * i + 1] = digit(*byte % 16);
     }
 }
 
@@ -38,10 +34,8 @@ fn sum(bytes: &[u8]) -> u8
     ensures { result ≡ Load.sum bytes.now % 256 }
 {
     let mut total: u8 = 0;
-    let mut i = 0;
-    while i < bytes.len() {
-        total = wrapping_add_u8(total, bytes[i]);
-        i += 1;
+    for byte in bytes {
+        total = total.wrapping_add(*byte);
     }
     total
 }
@@ -59,7 +53,7 @@ fn line(buffer: &mut [u8], at: usize, start: &[u8; 2], address: u32, bytes: &[u8
         (address / 0x100 % 256) as u8,
         (address % 256) as u8,
     ];
-    let check = [255 - wrapping_add_u8(sum(&head), sum(bytes))];
+    let check = [255 - sum(&head).wrapping_add(sum(bytes))];
     let end = at + 12 + 2 * bytes.len();
     buffer[at] = start[0];
     buffer[at + 1] = start[1];
@@ -95,33 +89,15 @@ fn data_lines(memory: &[u8], buffer: &mut [u8]) -> usize
     place
 }
 
-fn refused(refusal: Refusal) -> Exported
-    ensures { result ≡ record { refusal = refusal; length = 0 } }
-{
-    Exported {
-        refusal: refusal,
-        length: 0,
-    }
-}
-
-pub fn export(memory: &[u8], buffer: &mut [u8]) -> Exported
+pub fn export(memory: &[u8], buffer: &mut [u8]) -> Result<usize, Refusal>
     ensures { Exports memory.now buffer.old result buffer.new }
 {
     let n = memory.len();
-    let length = memory::refused_length(n);
-    if length == 1 {
-        return refused(Refusal::Ragged);
-    }
-    if length != 0 {
-        return refused(Refusal::Size);
-    }
+    memory::check_length(n)?;
     // Two digits a byte; and 15 characters more a line: start, count, address, check byte and line feed.
     if buffer.len() < 2 * n + 15 * ((n + 15) / 16) + 15 {
-        return refused(Refusal::Room);
+        return Err(Refusal::Room);
     }
     let place = data_lines(memory, buffer);
-    Exported {
-        refusal: Refusal::Accepted,
-        length: line(buffer, place, &openings::S7, 0, &memory[..0]),
-    }
+    Ok(line(buffer, place, &openings::S7, 0, &[]))
 }

@@ -1,13 +1,13 @@
 // One sweep over a text's lines: the first that is bad for another reason than an address written twice (document 02, request One).
 ghost use Rattle.std.specs.Prelude.{◌≡◌, ◌+◌, ◌^◌, ◌<◌, not, ◌&&◌, if◌then◌else◌, ◌==◌, nat_eq, nat_lt};
 ghost use Rattle.memory.specs.Lengths.{first};
-ghost use Rattle.srecord.specs.Load.{records, refusal_number};
-ghost use Rattle.srecord.specs.Records.{is_count, is_data};
+ghost use Rattle.srecord.specs.Load.{number_of, records, told, verdict};
+ghost use Rattle.srecord.specs.Records.{is_count, is_data, record_of};
 ghost use Rattle.srecord.specs.Promises as Promises;
 
 use crate::openings::Kind;
 use crate::records::Summary;
-use crate::{Refusal, lines, records};
+use crate::{Refusal, Refused, lines, records};
 
 // What is known of the lines so far: data lines, whether one was a closing line, where the last data ended, and whether each began at or
 // behind the end of the one before it.
@@ -33,11 +33,10 @@ impl SoFar {
     }
 }
 
-// The refusal and its line, the lines before it, and whether their data stand in order.
+// What the sweep answers, the lines before the one that is refused, and whether their data stand in order.
 #[derive(Clone, Copy)]
 pub struct Swept {
-    pub refusal: Refusal,
-    pub line: usize,
+    pub verdict: Result<(), Refused>,
     pub passed: usize,
     pub ordered: bool,
 }
@@ -55,22 +54,22 @@ fn wrong_number(count: usize, r: Summary) -> bool
 }
 
 // A record's refusal, address written twice left aside.
-fn single(size: usize, s: SoFar, r: Summary) -> Refusal
-    ensures { refusal_number result ≡ first (Promises.single_tests size s.closed s.count r) }
+fn single(size: usize, s: SoFar, r: Summary) -> Result<(), Refusal>
+    ensures { number_of result ≡ first (Promises.single_tests size s.closed s.count r) }
 {
     if s.closed {
-        return Refusal::Line;
+        return Err(Refusal::Line);
     }
     if !r.checks {
-        return Refusal::Check;
+        return Err(Refusal::Check);
     }
     if outside(size, r) {
-        return Refusal::Outside;
+        return Err(Refusal::Outside);
     }
     if wrong_number(s.count, r) {
-        return Refusal::Number;
+        return Err(Refusal::Number);
     }
-    Refusal::Accepted
+    Ok(())
 }
 
 fn count_after(kind: Kind, count: usize) -> usize
@@ -103,6 +102,16 @@ fn noted(s: SoFar, r: Summary) -> SoFar
     }
 }
 
+// What is known behind one line more, or why it is refused.
+fn behind(size: usize, s: SoFar, line: &[u8]) -> Result<SoFar, Refusal>
+    requires { s.count + 1 < 2 ^ 64 }
+    ensures { Promises.Behind size s (record_of line.now) result }
+{
+    let r = records::parse(line).ok_or(Refusal::Line)?;
+    single(size, s, r)?;
+    Ok(noted(s, r))
+}
+
 pub fn sweep(text: &[u8], size: usize) -> Swept
     ensures { Promises.finding_of result ≡ Promises.swept size 0 Promises.fresh (records text.now) }
 {
@@ -111,23 +120,14 @@ pub fn sweep(text: &[u8], size: usize) -> Swept
     let mut at = 0;
     while at < text.len() {
         let next = lines::next(text, at);
-        match records::parse(&text[at..next]) {
-            Some(r) => {
-                let refusal = single(size, s, r);
-                if refusal.number() != 0 {
-                    return Swept {
-                        refusal: refusal,
-                        line: n + 1,
-                        passed: n,
-                        ordered: s.ordered,
-                    };
-                }
-                s = noted(s, r);
-            }
-            None => {
+        match behind(size, s, &text[at..next]) {
+            Ok(after) => s = after,
+            Err(refusal) => {
                 return Swept {
-                    refusal: Refusal::Line,
-                    line: n + 1,
+                    verdict: Err(Refused {
+                        refusal,
+                        line: n + 1,
+                    }),
                     passed: n,
                     ordered: s.ordered,
                 };
@@ -137,18 +137,20 @@ pub fn sweep(text: &[u8], size: usize) -> Swept
         at = next;
     }
     Swept {
-        refusal: at_end(s.closed),
-        line: 0,
+        verdict: at_end(s.closed),
         passed: n,
         ordered: s.ordered,
     }
 }
 
-fn at_end(closed: bool) -> Refusal
-    ensures { refusal_number result ≡ (if closed then 0 else 15) }
+fn at_end(closed: bool) -> Result<(), Refused>
+    ensures { told result ≡ (if closed then verdict 0 0 else verdict 15 0) }
 {
     if closed {
-        return Refusal::Accepted;
+        return Ok(());
     }
-    Refusal::Unclosed
+    Err(Refused {
+        refusal: Refusal::Unclosed,
+        line: 0,
+    })
 }

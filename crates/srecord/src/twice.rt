@@ -1,7 +1,7 @@
 // The first line that writes an address again (document 02, request One: 13).
 ghost use Rattle.std.specs.Prelude.{◌≡◌, ◌+◌, ◌≤◌, length};
 ghost use Rattle.srecord.specs.Load.{records};
-ghost use Rattle.srecord.specs.Promises.{AllRead, FirstAgain, Marks, writes_in};
+ghost use Rattle.srecord.specs.Promises.{AllRead, Finds, Marks, writes_in};
 
 use crate::records::Summary;
 use crate::{lines, marks, records};
@@ -42,37 +42,37 @@ fn mark_line(marks: &mut [u8], low: usize, line: Option<Summary>) -> bool
 }
 
 // The first of `limit` lines that writes again an address in the window at `low`.
-fn again_in(text: &[u8], limit: usize, low: usize) -> usize
+fn again_in(text: &[u8], limit: usize, low: usize) -> Option<usize>
     requires { (low ≤ 16777216) × AllRead (records text.now) limit }
-    ensures { FirstAgain (records text.now) limit low (low + 229376) result }
+    ensures { Finds (records text.now) limit low (low + 229376) result }
 {
     let mut marks = [0u8; 28672];
     let mut n = 0;
     let mut at = 0;
     while at < text.len() {
         if limit <= n {
-            return limit;
+            return None;
         }
         let next = lines::next(text, at);
         let line = records::span(&text[at..next]);
         if mark_line(&mut marks, low, line) {
-            return n;
+            return Some(n);
         }
         n += 1;
         at = next;
     }
-    limit
+    None
 }
 
 // Window by window: each leaves no more lines for the next ones to look at.
-pub fn first_again(text: &[u8], size: usize, limit: usize) -> usize
+pub fn first_again(text: &[u8], size: usize, limit: usize) -> Option<usize>
     requires { (size ≤ 16777216) × AllRead (records text.now) limit }
-    ensures { FirstAgain (records text.now) limit 0 size result }
+    ensures { Finds (records text.now) limit 0 size result }
 {
-    let mut first = limit;
+    let mut first = None;
     let mut low = 0;
     while low < size {
-        first = again_in(text, first, low);
+        first = again_in(text, first.unwrap_or(limit), low).or(first);
         low += WINDOW;
     }
     first

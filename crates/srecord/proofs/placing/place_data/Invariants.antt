@@ -1,6 +1,5 @@
 -- `place_data` has written the first i of the bytes: the rest, written behind them, leaves what all of them leave.
 -- Assumes nothing.
-use Rattle.std.proofs.Common.{◌≡◌, length}
 use Rattle.srecord.proofs.Placement.{StillPlaces}
 use Rattle.srecord.proofs.placing.place_data.Given as goal
 

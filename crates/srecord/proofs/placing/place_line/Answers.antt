@@ -1,6 +1,6 @@
 -- `place_line` places the data of the record that the line is, where it is one.
 -- Assumes nothing.
-use Rattle.std.proofs.Common.{◌≡◌, ◌≤◌, ◌+◌, length, sym, arith, length-drop, rules}
+use Rattle.std.proofs.Common.{◌≤◌, ◌+◌, length, sym, arith, length-drop, rules}
 use Rattle.srecord.specs.Records.{data_of}
 use Rattle.srecord.proofs.Placement.{cut_behind, data_count, data_made, room, two}
 use Rattle.srecord.proofs.Sweeping.{is_known}

@@ -1,9 +1,9 @@
 -- What `added` has read, with the bytes of the digits that are left, sums up to all of them.
 -- Assumes nothing.
-use Rattle.std.proofs.Common.{◌≡◌, ◌+◌, ◌*◌, ◌/◌, ◌<◌, ◌≤◌, ◌∙◌, [], length, get_or, drop, arith}
+use Rattle.std.proofs.Common.{◌≡◌, ◌+◌, ◌*◌, ◌/◌, ◌<◌, ◌∙◌, [], length, get_or, drop, arith}
 use Rattle.std.specs.Simd.{first_chunks}
 use Rattle.text.proofs.Values.{value_of_digit}
-use Rattle.srecord.proofs.Pairs.{ends_bad, ends_good, from_zero, odd, one_pair, pair_among, pair_at, two_off}
+use Rattle.srecord.proofs.Pairs.{ends_good, odd, one_pair, pair_among, pair_at, two_off}
 use Rattle.srecord.proofs.records.added.Goals as goal
 
 pub returns-then-digits-ne0 : goal.returns-then-digits-ne0

@@ -1,6 +1,6 @@
 -- `byte` joins the values of its two digits.
 -- Assumes nothing.
-use Rattle.std.proofs.Common.{◌≡◌, length, rules, arith}
+use Rattle.std.proofs.Common.{◌≡◌, length, rules}
 use Rattle.text.proofs.Values.{value_of_digit}
 use Rattle.srecord.proofs.Pairs.{pair_value, two_digits}
 use Rattle.srecord.proofs.records.byte.Goals as goal

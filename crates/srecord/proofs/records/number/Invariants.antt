@@ -1,6 +1,6 @@
 -- `number` has in n what the first i of the bytes make.
 -- Assumes nothing.
-use Rattle.std.proofs.Common.{◌≡◌, ◌^◌, ◌<◌}
+use Rattle.std.proofs.Common.{◌^◌, ◌<◌}
 use Rattle.srecord.proofs.Pairs.{SoFar}
 use Rattle.srecord.proofs.records.number.Given as goal
 

@@ -1,6 +1,6 @@
 -- `parse` finds the line's end, its opening, and reads the digits behind it.
 -- Assumes nothing.
-use Rattle.std.proofs.Common.{◌≡◌, ◌≤◌, length, sym, ap, ◌∙◌, rules}
+use Rattle.std.proofs.Common.{◌≤◌, length, rules}
 use Rattle.srecord.specs.Records.{record_of}
 use Rattle.srecord.proofs.Placement.{whole}
 use Rattle.srecord.proofs.Starts.{long_enough, narrow}

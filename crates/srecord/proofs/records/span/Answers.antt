@@ -1,6 +1,6 @@
 -- `span` finds the opening, and reads the count and the address behind it: of a line that is a record there are as many pairs of digits.
 -- Assumes nothing.
-use Rattle.std.proofs.Common.{◌≡◌, ◌≤◌, ◌+◌, ◌-◌, length, sym, ap, ◌∙◌, drop, arith, rules, length-take, length-drop}
+use Rattle.std.proofs.Common.{◌≡◌, ◌≤◌, ◌+◌, ◌-◌, length, ap, ◌∙◌, drop, arith, rules, length-take}
 use Rattle.srecord.specs.declared.openings.Opening.{Opening}
 use Rattle.srecord.proofs.Pairs.{never}
 use Rattle.srecord.proofs.Placement.{address_read, count_enough, count_seen, cut_behind, data_length, opening_same, opening_seen, pairs_enough, some_pair}
@@ -37,8 +37,8 @@ returns-then-count-least c r is =
     let seen = count_seen line r is cut _ c.in_ok-first.ensures.value c.byte-count.ensures in
     absurd
     (elim c.then-count-least.branch [
-      then-count-least-via-then-count-least w ↦ omega (arith, count_enough line r is cut _ seen, same)
-    | then-count-least-via-else-count-least+then-pairs-least w ↦ omega (arith, pairs_enough line r is cut _ seen, same)
+      | then-count-least-via-then-count-least w ↦ omega (arith, count_enough line r is cut _ seen, same)
+      | then-count-least-via-else-count-least+then-pairs-least w ↦ omega (arith, pairs_enough line r is cut _ seen, same)
     ])
 
 pub number-requires : goal.number-requires

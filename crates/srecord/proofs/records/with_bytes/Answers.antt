@@ -1,6 +1,6 @@
 -- `with_bytes` adds up the digits' bytes, and then tells by the first of them whether the line's length fits.
 -- Assumes nothing.
-use Rattle.std.proofs.Common.{List, ℕ, sym, ◌∙◌}
+use Rattle.std.proofs.Common.{sym, ◌∙◌}
 use Rattle.srecord.proofs.Summaries.{Cut, first_byte, is_record, may_not, no_bytes, sum_known, wrong_count}
 use Rattle.srecord.proofs.records.with_bytes.Goals.{then-pairs-count-via-then-pairs-count, then-pairs-count-via-else-pairs-count+then-not-may}
 use Rattle.srecord.proofs.records.with_bytes.Goals as goal
@@ -19,9 +19,9 @@ returns-then-pairs-count c =
     let k = sum_known _ c.in_ok-sum.ensures in
     let counted = first_byte cut k.1 c.byte-count.result c.in_ok-first.ensures.value c.byte-count.ensures in
     elim c.then-pairs-count.branch [
-      then-pairs-count-via-then-pairs-count w ↦ wrong_count cut k.1 c.args.opening _ counted w.if-pairs-count.true
-    | then-pairs-count-via-else-pairs-count+then-not-may w ↦
-        may_not cut k.1 c.args.opening _ counted w.if-pairs-count.false (sym w.may.ensures ∙ w.if-not-may.true)
+      | then-pairs-count-via-then-pairs-count w ↦ wrong_count cut k.1 c.args.opening _ counted w.if-pairs-count.true
+      | then-pairs-count-via-else-pairs-count+then-not-may w ↦
+          may_not cut k.1 c.args.opening _ counted w.if-pairs-count.false (sym w.may.ensures ∙ w.if-not-may.true)
     ]
 
 pub returns : goal.returns
