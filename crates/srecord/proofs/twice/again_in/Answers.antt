@@ -14,7 +14,7 @@ abbrev of_line : List ℕ → ℕ → ℕ → ℕ → Bool
 of_line text n low = λ i. writes (get_or (records text) n None) (low + i)
 
 pub loop-at-init : goal.loop-at-init
-loop-at-init c = (omega arith, omega arith, length-replicate {A = ℕ} 28672 0, refl, none_passed _ _ 28672 (omega arith))
+loop-at-init c = (omega arith, omega arith, refl, none_passed _ _ 28672 (omega arith))
 
 pub returns-then-mark_line : goal.returns-then-mark_line
 returns-then-mark_line c =
@@ -24,8 +24,8 @@ returns-then-mark_line c =
     let span = c.span-line in
     let marks : Marks l.marks (of_line a.text.now l.n a.low) c.mark_line.result c.mark_line.new.marks =
     marks_like _ c.mark_line.ensures
-    (λ i below. writes_at _ _ _ _ next l.invariant.3 c.requires.1 (omega arith) span.result span.ensures _) in
-    first_here _ l.invariant.4 (omega arith) (marked_again _ l.invariant.4 (rw c.if-mark_line.true at marks))
+    (λ i below. writes_at _ _ _ _ next l.invariant.2 c.requires.1 (omega arith) span.result span.ensures _) in
+    first_here _ l.invariant.3 (omega arith) (marked_again _ l.invariant.3 (rw c.if-mark_line.true at marks))
 
 pub loop-at-preserved : goal.loop-at-preserved
 loop-at-preserved c =
@@ -35,13 +35,12 @@ loop-at-preserved c =
     let span = c.span-line in
     let marks : Marks l.marks (of_line a.text.now l.n a.low) c.mark_line.result c.mark_line.new.marks =
     marks_like _ c.mark_line.ensures
-    (λ i below. writes_at _ _ _ _ next l.invariant.3 c.requires.1 (omega arith) span.result span.ensures _) in (
+    (λ i below. writes_at _ _ _ _ next l.invariant.2 c.requires.1 (omega arith) span.result span.ensures _) in (
       next.within,
       omega arith,
-      c.mark_line.auto.marks ∙ l.invariant.2,
-      lines_behind _ _ _ l.n next l.invariant.3,
-      one_passed _ l.invariant.4 (rw c.if-mark_line.false at marks),
+      lines_behind _ _ _ l.n next l.invariant.2,
+      one_passed _ l.invariant.3 (rw c.if-mark_line.false at marks),
     )
 
 pub returns : goal.returns
-returns c = none_left _ c.loop-at.invariant.4 (lines_end _ _ _ c.loop-at-test.false c.loop-at.invariant.3)
+returns c = none_left _ c.loop-at.invariant.3 (lines_end _ _ _ c.loop-at-test.false c.loop-at.invariant.2)

@@ -9,7 +9,6 @@ abbrev pub invariant-loop-at : goal.invariant-loop-at
 invariant-loop-at l =
     (l.at ≤ length l.text)
     × (l.n ≤ l.limit)
-    × (length l.marks ≡ 28672)
     × Reached l.text l.at l.n
     × Passed (records l.text) l.low l.n l.marks
 
