@@ -7,13 +7,14 @@ use Rattle.std.specs.List.{slice_get}
 use Rattle.std.specs.Simd.{first_chunks}
 use Rattle.text.specs.Reading.{value}
 use Rattle.text.specs.declared.reading.Letters.TheVariants.{EitherCase}
-use Rattle.srecord.specs.Lines.{content, cut, ends_in, without_last}
+use Rattle.srecord.specs.Lines.{content, ends_in, lines, without_last}
 use Rattle.srecord.specs.Load.{placed, records}
 use Rattle.srecord.specs.Records.{Record, and_then, address, bytes_of, carried, data_for, data_of, fits, may, opening_of, record_of}
-use Rattle.srecord.specs.Promises.{ByteOf, LineAt, Make, NumberOf, PlacesData, length_for, placed_by, with_bytes}
+use Rattle.srecord.specs.Promises.{ByteOf, Make, NumberOf, PlacesData, length_for, placed_by, with_bytes}
 use Rattle.srecord.specs.declared.openings.Kind.{Kind}
 use Rattle.srecord.specs.declared.openings.Kind.TheVariants.{Header, Data, Count, Closing}
 use Rattle.srecord.specs.declared.openings.Opening.{Opening}
+use Rattle.srecord.proofs.Cutting.{no_line}
 use Rattle.srecord.proofs.Pairs.{never, pair_of, pair_among, part_makes, twice_as_long}
 use Rattle.srecord.proofs.Summaries.{Cut, first_pair, length_for_data, may_least, no_pair, number_length}
 
@@ -41,22 +42,19 @@ module _ (pairs : List (List ℕ)) (memory : List ℕ) (address : ℕ) where
         rw (drop_of_length-le bytes over) at (still bytes all make)
 
 -- One line after the other.
-module _ (memory text : List ℕ) (at : ℕ) where
-  pub line_placed :
-      (next : ℕ) → LineAt text at next →
-      placed (placed_by memory (record_of (take (next - at) (drop at text)))) (records (drop next text)) ≡ placed memory (records (drop at text))
-  unfolding placed
-  line_placed next line = rw (ap (map record_of) line.cuts) (go (record_of (take (next - at) (drop at text))))
-    where
-      go :
-          (o : Option Record) →
-          placed (placed_by memory o) (records (drop next text)) ≡ placed memory (o ∷ records (drop next text))
-      go None = refl
-      go (Some r) = refl
+pub line_placed :
+    (memory x rest more : List ℕ) → lines rest ≡ x ∷ lines more →
+    placed (placed_by memory (record_of x)) (records more) ≡ placed memory (records rest)
+unfolding placed
+line_placed memory x rest more cuts = rw (ap (map record_of) cuts) (go (record_of x))
+  where
+    go : (o : Option Record) → placed (placed_by memory o) (records more) ≡ placed memory (o ∷ records more)
+    go None = refl
+    go (Some r) = refl
 
-  pub nothing_to_place : length text ≤ at → memory ≡ placed memory (records (drop at text))
-  unfolding placed cut
-  nothing_to_place over = rw (drop_of_length-le text over)
+pub nothing_to_place : (memory rest : List ℕ) → length rest ≡ 0 → memory ≡ placed memory (records rest)
+unfolding placed
+nothing_to_place memory rest none_left = rw (no_line rest none_left)
 
 -- All that stands behind the opening.
 pub whole : (line : List ℕ) → take (length line - 2) (drop 2 line) ≡ drop 2 line

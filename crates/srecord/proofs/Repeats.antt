@@ -1,16 +1,17 @@
 -- What marks tell of the lines passed so far, and the first line that writes an address again.
 -- Assumes nothing.
-use Rattle.std.proofs.Common.{◌≡◌, ℕ, ◌+◌, ◌-◌, ◌/◌, ◌%◌, ◌^◌, ◌<◌, ◌≤◌, Bool, true, false, eqb, ltb, List, ◌∷◌, map, length, get_or, take, drop, replicate, sym, refl, ap, ◌∙◌, not-suc-le-zero, add-zero, lt_irrefl, arith, length-drop, drop_of_length-le, get_or-drop, drop-drop, ltb-false, ltb-true, eqb-true, Option, None, Some, unwrap_or}
+use Rattle.std.proofs.Common.{◌≡◌, ℕ, zero, suc, ◌+◌, ◌-◌, ◌/◌, ◌%◌, ◌^◌, ◌<◌, ◌≤◌, Bool, true, false, eqb, ltb, List, ◌∷◌, map, length, get_or, drop, replicate, sym, refl, ap, ◌∙◌, not-suc-le-zero, add-zero, lt_irrefl, arith, length-drop, get_or-drop, drop-drop, ltb-false, ltb-true, eqb-true, Option, None, Some, unwrap_or}
 use Rattle.std.specs.Option.{option_or}
 use mathlib.Core.Bool.{or-true, false≢true}
 use native.Mathlib.Nat.{zero-div}
 use lib.ListN.{get_or-replicate, get_or-eq_default}
 use borrow.Author.Tests.{eqb-false}
 use Rattle.srecord.specs.declared.records.Summary.{Summary}
-use Rattle.srecord.specs.Lines.{cut, lines}
+use Rattle.srecord.specs.Lines.{lines}
 use Rattle.srecord.specs.Load.{records, writes}
 use Rattle.srecord.specs.Records.{Record, record_of}
-use Rattle.srecord.specs.Promises.{Again, AllRead, Finds, FirstAgain, LineAt, Marks, Once, Spans, marked, writes_by}
+use Rattle.srecord.specs.Promises.{Again, AllRead, Finds, FirstAgain, Marks, Once, Spans, marked, writes_by}
+use Rattle.srecord.proofs.Cutting.{no_line}
 
 -- One of the first n lines writes an address.
 pub record Written (lines : List (Option Record)) (n a : ℕ) : Type 0 where
@@ -87,43 +88,41 @@ module _ (lines : List (Option Record)) where
       pub one_passed : Passed lines low (n + 1) after
       one_passed = record { once = once; all = all; only = only }
 
--- n lines are passed, and the next one begins at `at`.
-abbrev pub Reached : List ℕ → ℕ → ℕ → Type 0
-Reached text at n = drop n (records text) ≡ map record_of (lines (drop at text))
+-- n lines are passed, and the others are those of `rest`.
+abbrev pub Reached : List ℕ → List ℕ → ℕ → Type 0
+Reached text rest n = drop n (records text) ≡ records rest
 
-module _ (text : List ℕ) (at next n : ℕ) (line : LineAt text at next) (reached : Reached text at n) where
-  here : drop n (records text) ≡ record_of (take (next - at) (drop at text)) ∷ map record_of (lines (drop next text))
-  here = reached ∙ ap (map record_of) line.cuts
+module _ (text rest x more : List ℕ) (n : ℕ) (cuts : lines rest ≡ x ∷ lines more) (reached : Reached text rest n) where
+  here : drop n (records text) ≡ record_of x ∷ records more
+  here = reached ∙ ap (map record_of) cuts
 
   -- The line at hand is line n,
-  pub line_at : get_or (records text) n None ≡ record_of (take (next - at) (drop at text))
+  pub line_at : get_or (records text) n None ≡ record_of x
   line_at = rw (← add-zero n, ← get_or-drop n (records text) 0 None, here)
 
   -- which writes what the code has it write;
   pub writes_at :
-      {limit : ℕ} → AllRead (records text) limit → n < limit → (p : Option Summary) → Spans (take (next - at) (drop at text)) p → (a : ℕ) →
+      {limit : ℕ} → AllRead (records text) limit → n < limit → (p : Option Summary) → Spans x p → (a : ℕ) →
       writes (get_or (records text) n None) a ≡ writes_by p a
-  writes_at all less p spans a = go (record_of (take (next - at) (drop at text))) refl
+  writes_at all less p spans a = go (record_of x) refl
     where
-      go :
-          (o : Option Record) → record_of (take (next - at) (drop at text)) ≡ o → writes (get_or (records text) n None) a ≡ writes_by p a
+      go : (o : Option Record) → record_of x ≡ o → writes (get_or (records text) n None) a ≡ writes_by p a
       go None e = absurd (all n less (line_at ∙ e))
       go (Some r) e = rw (line_at, e) (spans r e a)
 
-  -- and the next lines begin behind it.
-  pub lines_behind : Reached text next (n + 1)
+  -- and the next lines stand behind it.
+  pub lines_behind : Reached text more (n + 1)
   lines_behind = sym (drop-drop 1 n (records text)) ∙ rw here
 
 -- At the text's end all lines are passed: no line that is not there writes anything.
-pub lines_end : (text : List ℕ) (at n : ℕ) → length text ≤ at → Reached text at n → length (records text) ≤ n
-unfolding cut
-lines_end text at n over reached =
-    let none_left : length (drop n (records text)) ≡ 0 = rw (reached, drop_of_length-le text over) in
+pub lines_end : (text rest : List ℕ) (n : ℕ) → length rest ≡ 0 → Reached text rest n → length (records text) ≤ n
+lines_end text rest n empty reached =
+    let none_left : length (drop n (records text)) ≡ 0 = rw (reached, no_line rest empty) in
     omega (arith, length-drop n (records text))
 
 module _ (lines : List (Option Record)) {low n limit : ℕ} {marks : List ℕ} (p : Passed lines low n marks) where
   -- The limit is reached.
-  pub all_passed : n ≡ limit → Finds lines limit low (low + 229376) None
+  all_passed : n ≡ limit → Finds lines limit low (low + 229376) None
   all_passed reached =
       record {
         first = record { within = omega arith; once = rw (← reached) p.once; again = λ less. absurd (lt_irrefl _ less) };
@@ -135,7 +134,7 @@ module _ (lines : List (Option Record)) {low n limit : ℕ} {marks : List ℕ} (
   first_here less again = record { first = record { within = omega arith; once = p.once; again = λ _. again }; below = less }
 
   -- There is no line more.
-  pub none_left : length lines ≤ n → Finds lines limit low (low + 229376) None
+  none_left : length lines ≤ n → Finds lines limit low (low + 229376) None
   none_left over =
       record { first = record { within = omega arith; once = once; again = λ less. absurd (lt_irrefl _ less) }; below = tt }
     where
@@ -147,6 +146,11 @@ module _ (lines : List (Option Record)) {low n limit : ℕ} {marks : List ℕ} (
           go false e =
               let beyond : length lines ≤ j = omega (arith, ltb-false j n e) in
               false≢true (rw (get_or-eq_default lines None beyond) at second)
+
+  -- No line is left to look at, of the limit or of all.
+  pub ends_here : (left : ℕ) → n + left ≡ limit → (0 < left → length lines ≤ n) → Finds lines limit low (low + 229376) None
+  ends_here zero e all = all_passed (omega arith)
+  ends_here (suc left) e all = none_left (all (omega arith))
 
 module _ (lines : List (Option Record)) where
   -- No address, no line that writes one again.

@@ -1,5 +1,5 @@
 -- What the inner functions promise. `Loads` and `Exports` do not use it: none of it need be believed.
-use Rattle.std.specs.Prelude.{◌≡◌, ℕ, ◌+◌, ◌/◌, ◌%◌, ◌^◌, ◌<◌, ◌≤◌, Bool, true, false, cond, not, ◌&&◌, ◌||◌, List, [], ◌∷◌, length, drop, ◌==◌, ◌≢◌, nat_le, nat_lt, slice_index, slice_index_or, slice_range, Option, None, Some, Result, Ok, Err, IfSome, unwrap_or}
+use Rattle.std.specs.Prelude.{◌≡◌, ℕ, ◌+◌, ◌/◌, ◌%◌, ◌^◌, ◌<◌, ◌≤◌, Bool, true, false, cond, not, ◌&&◌, ◌||◌, List, [], ◌∷◌, length, drop, ◌==◌, ◌≢◌, nat_le, nat_lt, slice_index, slice_index_or, Option, None, Some, Result, Ok, Err, IfSome, unwrap_or}
 use Rattle.std.proofs.lemmas.List.Edits.{sets}
 use Rattle.memory.specs.Access.{value_at}
 use Rattle.memory.specs.Lengths.{Test, first, test}
@@ -14,12 +14,6 @@ use Rattle.srecord.specs.declared.sweep.Swept.{Swept}
 use Rattle.srecord.specs.Lines.{lines}
 use Rattle.srecord.specs.Records.{Record, address, and_then, bytes_of, data_of, fits, is_closing, is_count, is_data, opening_of, record_of}
 use Rattle.srecord.specs.Load.{refusal_number, sum, told, writes}
-
--- A line of a text: it begins at `at`, and the next one at `next`.
-pub record LineAt (text : List ℕ) (at next : ℕ) : Type 0 where
-  pub cuts : lines (drop at text) ≡ slice_range text at next ∷ lines (drop next text)
-  pub onward : at < next
-  pub within : next ≤ length text
 
 -- The byte that a pair of digits makes.
 abbrev pub ByteOf : List ℕ → ℕ → Type 0

@@ -64,27 +64,13 @@ fn line(buffer: &mut [u8], at: usize, start: &[u8; 2], address: u32, bytes: &[u8
     end + 3
 }
 
-// How many of the bytes that are left the next line has.
-fn piece(left: usize) -> usize
-    ensures { result ≡ min 16 left }
-{
-    if left < 16 {
-        return left;
-    }
-    16
-}
-
 fn data_lines(memory: &[u8], buffer: &mut [u8]) -> usize
     requires { (length memory.now ≤ 16777216) × (length (memory_lines memory.now) ≤ length buffer.old) }
     ensures { Places (memory_lines memory.now) buffer.old 0 buffer.new result }
 {
-    let n = memory.len();
     let mut place = 0;
-    let mut at = 0;
-    while at < n {
-        let end = at + piece(n - at);
-        place = line(buffer, place, &openings::S3, at as u32, &memory[at..end]);
-        at += 16;
+    for (i, bytes) in memory.chunks(16).enumerate() {
+        place = line(buffer, place, &openings::S3, 16 * i as u32, bytes);
     }
     place
 }

@@ -39,10 +39,7 @@ fn place_line(line: &[u8], memory: &mut [u8])
 pub fn place(text: &[u8], memory: &mut [u8])
     ensures { memory.new ≡ placed memory.old (records text.now) }
 {
-    let mut at = 0;
-    while at < text.len() {
-        let next = lines::next(text, at);
-        place_line(&text[at..next], memory);
-        at = next;
+    for line in text.split_inclusive(|b| *b == b'\n') {
+        place_line(line, memory);
     }
 }

@@ -7,7 +7,7 @@ ghost use Rattle.srecord.specs.Promises as Promises;
 
 use crate::openings::Kind;
 use crate::records::Summary;
-use crate::{Refusal, Refused, lines, records};
+use crate::{Refusal, Refused, records};
 
 // What is known of the lines so far: data lines, whether one was a closing line, where the last data ended, and whether each began at or
 // behind the end of the one before it.
@@ -117,10 +117,8 @@ pub fn sweep(text: &[u8], size: usize) -> Swept
 {
     let mut s = SoFar::none();
     let mut n = 0;
-    let mut at = 0;
-    while at < text.len() {
-        let next = lines::next(text, at);
-        match behind(size, s, &text[at..next]) {
+    for line in text.split_inclusive(|b| *b == b'\n') {
+        match behind(size, s, line) {
             Ok(after) => s = after,
             Err(refusal) => {
                 return Swept {
@@ -134,7 +132,6 @@ pub fn sweep(text: &[u8], size: usize) -> Swept
             }
         }
         n += 1;
-        at = next;
     }
     Swept {
         verdict: at_end(s.closed),

@@ -6,7 +6,7 @@ ghost use Rattle.srecord.specs.Promises.{AllRead, Finds, writes_in};
 
 use crate::marks::{Marks, WINDOW};
 use crate::records::Summary;
-use crate::{lines, marks, records};
+use crate::{marks, records};
 
 // Marks the addresses that a line's data go to from `low` on, and answers whether one was marked already.
 fn mark_data(marks: &mut Marks, low: usize, r: Summary) -> bool
@@ -39,19 +39,14 @@ fn again_in(text: &[u8], limit: usize, low: usize) -> Option<usize>
     ensures { Finds (records text.now) limit low (low + 229376) result }
 {
     let mut marks: Marks = [0; 28672];
-    let mut n = 0;
-    let mut at = 0;
-    while at < text.len() {
-        if limit <= n {
-            return None;
-        }
-        let next = lines::next(text, at);
-        let line = records::span(&text[at..next]);
-        if mark_line(&mut marks, low, line) {
+    for (n, line) in text
+        .split_inclusive(|b| *b == b'\n')
+        .take(limit)
+        .enumerate()
+    {
+        if mark_line(&mut marks, low, records::span(line)) {
             return Some(n);
         }
-        n += 1;
-        at = next;
     }
     None
 }

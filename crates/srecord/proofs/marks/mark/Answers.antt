@@ -1,8 +1,8 @@
 -- `mark` marks from `low` on: all before `i` are marked, and none of them was. It stops at one that was marked before.
 -- Assumes nothing.
-use Rattle.std.proofs.Common.{◌≡◌, ◌/◌, ◌%◌, ◌^◌, ◌<◌, ◌∙◌, get_or, arith, eq-eqb, ne_eqb}
+use Rattle.std.proofs.Common.{◌≡◌, ◌/◌, ◌%◌, ◌^◌, ◌<◌, get_or, arith, eq-eqb, ne_eqb}
 use Rattle.srecord.specs.Promises.{between, marked}
-use Rattle.srecord.proofs.Marking.{between_more, between_none, between_within, bit_fits, length_with_mark, shifted}
+use Rattle.srecord.proofs.Marking.{between_more, between_none, between_within, bit_fits, shifted}
 use Rattle.srecord.proofs.Marking.{marks_more, marks_taken}
 use Rattle.srecord.proofs.marks.mark.Goals as goal
 
