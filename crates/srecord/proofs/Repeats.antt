@@ -1,7 +1,6 @@
 -- What marks tell of the lines passed so far, and the first line that writes an address again.
 -- Assumes nothing.
-use Rattle.std.proofs.Common.{◌≡◌, ℕ, zero, suc, ◌+◌, ◌-◌, ◌/◌, ◌%◌, ◌^◌, ◌<◌, ◌≤◌, Bool, true, false, eqb, ltb, List, ◌∷◌, map, length, get_or, drop, replicate, sym, refl, ap, ◌∙◌, not-suc-le-zero, add-zero, lt_irrefl, arith, length-drop, get_or-drop, drop-drop, ltb-false, ltb-true, eqb-true, Option, None, Some, unwrap_or}
-use Rattle.std.specs.Option.{option_or}
+use Rattle.std.proofs.Common.{◌≡◌, ℕ, zero, suc, ◌+◌, ◌-◌, ◌/◌, ◌%◌, ◌^◌, ◌<◌, ◌≤◌, Bool, true, false, eqb, ltb, List, ◌∷◌, map, length, get_or, drop, replicate, sym, refl, ap, ◌∙◌, not-suc-le-zero, add-zero, lt_irrefl, arith, length-drop, get_or-drop, drop-drop, ltb-false, ltb-true, eqb-true, Option, None, Some}
 use mathlib.Core.Bool.{or-true, false≢true}
 use native.Mathlib.Nat.{zero-div}
 use lib.ListN.{get_or-replicate, get_or-eq_default}
@@ -187,20 +186,3 @@ module _ (lines : List (Option Record)) where
       again false e less =
           let same : first ≡ second = omega (arith, ltb-false second first e, g.within) in
           rw same at (f.again (rw same less))
-
-  -- Window by window, with the line that was found, if one was.
-  pub no_window : (limit : ℕ) → Finds lines limit 0 0 None
-  no_window limit = record { first = first_nowhere limit 0; below = tt }
-
-  pub next_window :
-      {limit low high : ℕ} (found more : Option ℕ) → Finds lines limit 0 low found → Finds lines (unwrap_or found limit) low high more →
-      Finds lines limit 0 high (option_or more found)
-  next_window found None f g = record { first = first_in_both f.first g.first; below = f.below }
-  next_window {limit} found (Some n) f g =
-      record { first = first_in_both f.first g.first; below = omega (arith, f.first.within, g.below) }
-
-  pub windows_done : {limit low size : ℕ} (found : Option ℕ) → Finds lines limit 0 low found → size ≤ low → Finds lines limit 0 size found
-  windows_done found f over = record { first = first_in_part f.first over; below = f.below }
-
-  pub fewer_read : {limit low high : ℕ} (found : Option ℕ) → Finds lines limit low high found → AllRead lines limit → AllRead lines (unwrap_or found limit)
-  fewer_read found f all i less = all i (omega (arith, f.first.within))
