@@ -124,10 +124,6 @@ with_rest good s None = None
 with_rest false s (Some bytes) = None
 with_rest true s (Some bytes) = Some ((s + sum bytes) % 256)
 
-pub from_zero : (o : Option (List ℕ)) → with_rest true 0 o ≡ total_of o
-from_zero None = refl
-from_zero (Some bytes) = ap Some (omega arith)
-
 -- Behind the last digit.
 module _ (digits : List ℕ) (s i : ℕ) (good : Bool) (done : 2 * i ≡ length digits) where
   none_left : drop (2 * i) digits ≡ []

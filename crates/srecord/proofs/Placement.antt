@@ -1,6 +1,6 @@
 -- Laws of data written into the memory, byte by byte and line by line.
 -- Assumes nothing.
-use Rattle.std.proofs.Common.{◌≡◌, ℕ, suc, ◌+◌, ◌-◌, ◌*◌, ◌/◌, ◌<◌, ◌≤◌, Bool, true, false, cond, eqb, List, [], ◌∷◌, map, length, get_or, take, drop, set, sym, refl, ap, ◌∙◌, le_refl, add-zero, add-one, arith, length-drop, drop_of_length-le, length-take, length-take-le, get_or-drop, take_all, drop-cons, get_or-take, take-take, eqb-true, Option, None, Some}
+use Rattle.std.proofs.Common.{◌≡◌, ℕ, suc, ◌+◌, ◌-◌, ◌*◌, ◌/◌, ◌<◌, ◌≤◌, Bool, true, false, cond, eqb, List, [], ◌∷◌, map, length, get_or, take, drop, set, sym, refl, ap, ◌∙◌, le_refl, add-one, arith, length-drop, length-take, length-take-le, get_or-drop, take_all, drop-cons, get_or-take, take-take, eqb-true, Option, None, Some}
 use mathlib.Core.Bool.{and-eq-true_iff}
 use lib.Seq.{sets}
 use Rattle.std.specs.List.{slice_get}
@@ -10,7 +10,7 @@ use Rattle.text.specs.declared.reading.Letters.TheVariants.{EitherCase}
 use Rattle.srecord.specs.Lines.{content, ends_in, lines, without_last}
 use Rattle.srecord.specs.Load.{placed, records}
 use Rattle.srecord.specs.Records.{Record, and_then, address, bytes_of, carried, data_for, data_of, fits, may, opening_of, record_of}
-use Rattle.srecord.specs.Promises.{ByteOf, Make, NumberOf, PlacesData, length_for, placed_by, with_bytes}
+use Rattle.srecord.specs.Promises.{ByteOf, Make, NumberOf, length_for, placed_by, with_bytes}
 use Rattle.srecord.specs.declared.openings.Kind.{Kind}
 use Rattle.srecord.specs.declared.openings.Kind.TheVariants.{Header, Data, Count, Closing}
 use Rattle.srecord.specs.declared.openings.Opening.{Opening}
@@ -24,9 +24,6 @@ StillPlaces pairs memory address i now =
     (bytes : List ℕ) → length bytes ≡ length pairs → Make pairs bytes 0 → sets now (address + i) (drop i bytes) ≡ sets memory address bytes
 
 module _ (pairs : List (List ℕ)) (memory : List ℕ) (address : ℕ) where
-  pub none_placed : StillPlaces pairs memory address 0 memory
-  none_placed bytes all make = rw (add-zero address)
-
   module _ (i : ℕ) (now : List ℕ) (still : StillPlaces pairs memory address i now) where
     pub one_placed :
         (b : ℕ) → i < length pairs → ByteOf (get_or pairs i []) b → StillPlaces pairs memory address (i + 1) (set now (address + i) b)
@@ -35,11 +32,6 @@ module _ (pairs : List (List ℕ)) (memory : List ℕ) (address : ℕ) where
         let inside : i < length bytes = omega arith in
         let first : 0 + i ≡ i = omega arith in
         rw (next, add-one i, here (get_or bytes i 0) (rw first at (make i more))) (rw (drop-cons bytes i 0 inside) at (still bytes all make))
-
-    pub all_placed : length pairs ≤ i → PlacesData pairs memory address now
-    all_placed done bytes all make =
-        let over : length bytes ≤ i = omega arith in
-        rw (drop_of_length-le bytes over) at (still bytes all make)
 
 -- One line after the other.
 pub line_placed :

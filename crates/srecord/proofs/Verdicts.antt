@@ -253,7 +253,3 @@ module _ (size : ℕ) (ls : List (Option Record)) (f : Finding) (sweeps : f ≡ 
       let n = f.passed in
       verdict_found n (record { within = le_refl n; once = once; again = λ less. absurd (lt_irrefl n less) })
       ∙ rw (le-ltb n n (le_refl n))
-
-  pub verdict_again : (n : ℕ) → n < f.passed → Once ls n 0 size → Again ls n → judged size 1 [] ls ≡ verdict 13 (n + 1)
-  verdict_again n less once again =
-      verdict_found n (record { within = omega arith; once = once; again = λ _. again }) ∙ rw (lt-ltb n f.passed less)
