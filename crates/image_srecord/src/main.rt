@@ -3,6 +3,7 @@
 
 ghost use Rattle.std.specs.Prelude.{◌≡◌, length};
 
+use srecord::Refusal;
 use std::io;
 
 // The longest image (document 01, "The runner").
@@ -25,18 +26,14 @@ fn main(rt: HostRuntime) -> io::Result<()> {
 
 fn print_text(rt: &impl Print, image: &[u8], text: &mut [u8]) -> io::Result<()> {
     if image.len() > LONGEST {
-        return print_refusal(rt, 2);
+        return print_refusal(rt, Refusal::Size);
     }
-    let answer = srecord::export(image, text);
-    let refusal = answer.refusal;
-    let number = refusal.number();
-    if number != 0 {
-        return print_refusal(rt, number);
+    match srecord::export(image, text) {
+        Ok(n) => rt.write_all(&text[..n]),
+        Err(refusal) => print_refusal(rt, refusal),
     }
-    let n = answer.length;
-    rt.write_all(&text[..n])
 }
 
-fn print_refusal(rt: &impl Print, number: u32) -> io::Result<()> {
-    println!(rt; "refused {number}")
+fn print_refusal(rt: &impl Print, refusal: Refusal) -> io::Result<()> {
+    println!(rt; "refused {}", u32::from(refusal))
 }

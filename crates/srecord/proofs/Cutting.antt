@@ -1,72 +1,56 @@
--- Laws of lines: a text cut byte by byte from where a line begins, and what stands before a line's end.
+-- Laws of lines: a text cut behind its first line feed, as `split_inclusive` cuts it.
 -- Assumes nothing.
-use Rattle.std.proofs.Common.{◌≡◌, ℕ, suc, ◌+◌, ◌-◌, ◌<◌, ◌≤◌, List, [], ◌∷◌, ◌++◌, length, get_or, take, drop, add-one, arith, drop_of_length-le, length-take-le, get_or-drop, drop-cons, get_or-take, take-suc, take-take, eq-eqb, ne_eqb}
-use mathlib.Core.Option.{none, some}
-use native.Mathlib.Nat.{sub_self}
-use lib.ListN.{get_or-eq_default}
-use Rattle.srecord.specs.Lines.{content, cut, lines, without_last, without_return}
+use Rattle.std.proofs.Common.{◌≡◌, ℕ, zero, suc, ◌+◌, ◌<◌, ◌≤◌, min, true, false, List, [], ◌∷◌, ◌++◌, ◌==◌, length, refl, ap, ◌∙◌, append_assoc, arith, length-append, ne_eqb}
+use Rattle.std.specs.List.{IsFirstMatchOrLen}
+use Rattle.srecord.specs.Lines.{cut, lines}
 
--- What stands from `at` to below i.
-abbrev pub begun : List ℕ → ℕ → ℕ → List ℕ
-begun text at i = take (i - at) (drop at text)
+empty_of : (x : List ℕ) → length x ≡ 0 → x ≡ []
+empty_of [] e = refl
+empty_of (b ∷ x) e = absurd (omega arith)
 
-module _ (text : List ℕ) (at : ℕ) where
-  pub at_first : lines (drop at text) ≡ cut (begun text at at) (drop at text)
-  at_first = rw (sub_self at)
+cut_taken :
+    (begun x rest more : List ℕ) (i : ℕ) → rest ≡ x ++ more → length x ≡ min (i + 1) (length rest) →
+    IsFirstMatchOrLen (λ b. b == 10) rest i → 0 < length rest → cut begun rest ≡ (begun ++ x) ∷ cut [] more
+unfolding cut
+cut_taken begun [] rest more i e n f left = absurd (omega arith)
+cut_taken begun (b ∷ x) [] more i e n f left = absurd (omega arith)
+cut_taken begun (b ∷ x) (a ∷ rest) more zero e n f left =
+    let feed : (a == 10) ≡ true = f.1 (omega arith) 0 in
+    let same : a ≡ b = cc in
+    let last : x ≡ [] = empty_of x (omega arith) in
+    let behind : rest ≡ x ++ more = cc in
+    rw (feed, same, last) (rw last at (ap (λ (l : List ℕ). (begun ++ (b ∷ [])) ∷ cut [] l) behind))
+cut_taken begun (b ∷ x) (a ∷ []) more (suc i) e n f left =
+    let other : (a == 10) ≡ false = f.0 0 0 (omega arith) (omega arith) in
+    let same : a ≡ b = cc in
+    let last : x ≡ [] = empty_of x (omega arith) in
+    let behind : [] ≡ x ++ more = cc in
+    let none_more : [] ≡ more = rw last at behind in
+    let some_begun : length (begun ++ (b ∷ [])) ≡ 0 → ⊥ = λ h. omega (arith, length-append begun (b ∷ [])) in
+    rw (other, same, last, ← none_more, ne_eqb _ 0 some_begun)
+cut_taken begun (b ∷ x) (a ∷ c ∷ rest) more (suc i) e n f left =
+    let other : (a == 10) ≡ false = f.0 0 0 (omega arith) (omega arith) in
+    let same : a ≡ b = cc in
+    let behind : c ∷ rest ≡ x ++ more = cc in
+    rw (other, same)
+    (cut_taken (begun ++ (b ∷ [])) x (c ∷ rest) more i behind (omega arith)
+    (λ k d low high. f.0 (suc k) d (omega arith) (omega arith), λ inside d. f.1 (omega arith) d)
+    (omega arith)
+    ∙ rw (append_assoc begun (b ∷ []) x))
 
-  module _ (i : ℕ) (after : at ≤ i) (inside : i < length text) where
-    one_more : begun text at i ++ (get_or text i 0 ∷ []) ≡ begun text at (i + 1)
-    one_more =
-        let count : i + 1 - at ≡ suc (i - at) = omega arith in
-        let place : at + (i - at) ≡ i = omega arith in
-        let room : i - at < length (drop at text) = rw (lib.ListN.length-drop at text) (omega arith) in
-        rw (count, take-suc (drop at text) (i - at) 0 room, get_or-drop at text (i - at) 0, place)
+-- What is taken is the first line.
+pub first_line :
+    {x rest : List ℕ} (more : List ℕ) {i : ℕ} → rest ≡ x ++ more → length x ≡ min (i + 1) (length rest) →
+    IsFirstMatchOrLen (λ b. b == 10) rest i → 0 < length rest → lines rest ≡ x ∷ lines more
+first_line {x} {rest} more {i} e n f left = cut_taken [] x rest more i e n f left
 
-    pub goes_on : (get_or text i 0 ≡ 10 → ⊥) → cut (begun text at i) (drop i text) ≡ cut (begun text at (i + 1)) (drop (i + 1) text)
-    unfolding cut
-    goes_on other = rw (drop-cons text i 0 inside, ne_eqb (get_or text i 0) 10 other, one_more, add-one i)
+pub no_line : (rest : List ℕ) → length rest ≡ 0 → lines rest ≡ []
+unfolding cut
+no_line rest e = rw (empty_of rest e)
 
-    pub line_feed : get_or text i 0 ≡ 10 → cut (begun text at i) (drop i text) ≡ begun text at (i + 1) ∷ lines (drop (i + 1) text)
-    unfolding cut
-    line_feed here = rw (drop-cons text i 0 inside, eq-eqb (get_or text i 0) 10 here, one_more, add-one i)
-
-  pub at_end : at < length text → cut (begun text at (length text)) (drop (length text) text) ≡ begun text at (length text) ∷ lines (drop (length text) text)
-  unfolding cut
-  at_end inside =
-      let some_left : length (begun text at (length text)) ≡ 0 → ⊥ =
-      rw (length-take-le (length text - at) (drop at text) (rw (lib.ListN.length-drop at text) (omega arith))) (λ none. omega arith) in
-      rw (drop_of_length-le text (native.Mathlib.Nat.le_refl (length text)), ne_eqb _ 0 some_left)
-
-module _ (line : List ℕ) where
-  pub no_end : (get_or line (length line - 1) 0 ≡ 10 → ⊥) → none ≡ content line
-  unfolding content
-  no_end other = rw (ne_eqb _ 10 other)
-
-  pub nothing_ends : length line ≡ 0 → none ≡ content line
-  nothing_ends empty =
-      no_end (λ here. let zero : get_or line (length line - 1) 0 ≡ 0 = get_or-eq_default line 0 (omega arith) in omega arith)
-
-  module _ (here : get_or line (length line - 1) 0 ≡ 10) where
-    ended : some (without_return (without_last line)) ≡ content line
-    unfolding content
-    ended = rw (eq-eqb _ 10 here)
-
-    pub only_an_end : length line ≡ 1 → some (take 0 line) ≡ content line
-    only_an_end one = rw one at ended
-
-    module _ (two : 2 ≤ length line) where
-      shorter : length (without_last line) ≡ length line - 1
-      shorter = length-take-le (length line - 1) line (omega arith)
-
-      last_but_one : get_or (without_last line) (length (without_last line) - 1) 0 ≡ get_or line (length line - 2) 0
-      last_but_one =
-          let place : length line - 1 - 1 ≡ length line - 2 = omega arith in
-          rw (shorter, place) (get_or-take (length line - 1) line (length line - 2) 0 (omega arith))
-
-      pub return_too : get_or line (length line - 2) 0 ≡ 13 → some (take (length line - 2) line) ≡ content line
-      return_too return =
-          let place : length line - 1 - 1 ≡ length line - 2 = omega arith in
-          rw (last_but_one, eq-eqb _ 13 return, shorter, place, take-take (length line - 2) (length line - 1) line (omega arith)) at ended
-
-      pub no_return : (get_or line (length line - 2) 0 ≡ 13 → ⊥) → some (take (length line - 1) line) ≡ content line
-      no_return other = rw (last_but_one, ne_eqb _ 13 other) at ended
+pub shorter :
+    (x rest more : List ℕ) (i : ℕ) → rest ≡ x ++ more → length x ≡ min (i + 1) (length rest) → 0 < length rest →
+    length more + 1 ≤ length rest
+shorter x rest more i e n left =
+    let whole : length rest ≡ length x + length more = ap length e ∙ length-append x more in
+    omega (arith, whole)

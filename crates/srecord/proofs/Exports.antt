@@ -1,18 +1,16 @@
 -- Laws of `export`: which refusal is given, what is promised of one and of a text that is written, and that the promise leaves no choice.
 -- Assumes nothing.
-use Rattle.std.proofs.Common.{◌≡◌, ℕ, ◌+◌, ◌*◌, ◌/◌, ◌%◌, ◌<◌, ◌≤◌, Bool, true, false, cond, not, ◌||◌, eqb, ltb, List, [], ◌∷◌, ◌++◌, length, drop, sym, refl, ap, ◌∙◌, add_assoc, zero-add, length-append, ltb-false, le-ltb, lt-ltb, eq-eqb, ne_eqb}
+use Rattle.std.proofs.Common.{◌≡◌, ℕ, ◌+◌, ◌*◌, ◌/◌, ◌%◌, ◌<◌, ◌≤◌, Bool, true, false, cond, not, ◌||◌, eqb, ltb, List, [], ◌∷◌, ◌++◌, length, drop, sym, refl, ap, ◌∙◌, add_assoc, zero-add, length-append, ltb-false, le-ltb, lt-ltb, eq-eqb, ne_eqb, Result, Ok, Err, IfOk}
 use lib.Seq.{sets, sets-eq}
 use Rattle.memory.specs.Lengths.{first, length_tests, refused_length, test}
 use Rattle.memory.proofs.Acceptance.{none_before, same_before}
 use Rattle.srecord.specs.Export.{Exports, exported, refused_export}
 use Rattle.srecord.specs.Promises.{Places}
-use Rattle.srecord.specs.Load.{refusal_number}
-use Rattle.srecord.specs.declared.Exported.{Exported}
+use Rattle.srecord.specs.Load.{number_of, refusal_number}
 use Rattle.srecord.specs.declared.Refusal.{Refusal}
-use Rattle.srecord.specs.declared.Refusal.TheVariants.{Accepted}
 use Rattle.srecord.proofs.WrittenPairs.{behind}
 use Rattle.srecord.proofs.WrittenLines.{exported_length}
-use Rattle.srecord.proofs.Refusals.{refusal_determined}
+use Rattle.srecord.proofs.Refusals.{refusal_determined, some_number}
 
 -- One text placed, and another behind it.
 pub then_placed :
@@ -28,7 +26,7 @@ module _ (memory buffer : List ℕ) where
   short = ltb (length buffer) (length (exported memory))
 
   pub length_refuses : {k : ℕ} → k ≡ refused_length (length memory) → (k ≡ 0 → ⊥) → k ≡ refused_export memory buffer
-  length_refuses e some = e ∙ sym (same_before (length_tests (length memory)) (test 16 short ∷ []) (λ none. some (e ∙ none)))
+  length_refuses e given = e ∙ sym (same_before (length_tests (length memory)) (test 16 short ∷ []) (λ none_given. given (e ∙ none_given)))
 
   pub length_accepted : refused_export memory buffer ≡ 0 → refused_length (length memory) ≡ 0
   length_accepted e = none_before (length_tests (length memory)) (test 16 short ∷ []) e
@@ -51,8 +49,8 @@ module _ (memory buffer : List ℕ) where
 
   -- The same of any answer that the promise allows.
   pub room_told :
-      (answer : Exported) (after : List ℕ) → Exports memory buffer answer after → refused_length (length memory) ≡ 0 →
-      refusal_number answer.refusal ≡ cond (ltb (length buffer) (2 * length memory + 15 * ((length memory + 15) / 16) + 15)) 16 0
+      (answer : Result ℕ Refusal) (after : List ℕ) → Exports memory buffer answer after → refused_length (length memory) ≡ 0 →
+      number_of answer ≡ cond (ltb (length buffer) (2 * length memory + 15 * ((length memory + 15) / 16) + 15)) 16 0
   room_told answer after done e = done.refuses ∙ room_exactly e
 
   pub room_refuses : refused_length (length memory) ≡ 0 → length buffer < length (exported memory) → 16 ≡ refused_export memory buffer
@@ -62,31 +60,29 @@ module _ (memory buffer : List ℕ) where
   room_suffices e enough = sym (room_decides e ∙ ap (λ (t : Bool). cond t 16 0) (le-ltb _ _ enough))
 
   -- A text that was written fits.
-  pub text_fits : (answer : Exported) (after : List ℕ) → Exports memory buffer answer after → refusal_number answer.refusal ≡ 0 → answer.length ≤ length buffer
-  text_fits answer after done accepted =
-      let none = sym done.refuses ∙ accepted in
-      let fits : short ≡ false = go short (sym (room_decides (length_accepted none)) ∙ none) in
-      rw (done.counts, none) (ltb-false (length buffer) (length (exported memory)) fits)
+  pub text_fits : (n : ℕ) (after : List ℕ) → Exports memory buffer (Ok n) after → n ≤ length buffer
+  text_fits n after done =
+      let written = sym done.refuses in
+      let fits : short ≡ false = go short (sym (room_decides (length_accepted written)) ∙ written) in
+      rw done.counts (ltb-false (length buffer) (length (exported memory)) fits)
     where
       go : (t : Bool) → ◌≡◌ {A = ℕ} (cond t 16 0) 0 → t ≡ false
       go true e = cc
       go false e = refl
 
-  pub refused_exports :
-      (why : Refusal) → refusal_number why ≡ refused_export memory buffer → (refusal_number why ≡ 0 → ⊥) →
-      Exports memory buffer (record { refusal = why; length = 0 }) buffer
-  refused_exports why e some =
+  pub refused_exports : (why : Refusal) → refusal_number why ≡ refused_export memory buffer → Exports memory buffer (Err why) buffer
+  refused_exports why e =
       let text = exported memory in
-      let no : eqb (refused_export memory buffer) 0 ≡ false = ne_eqb _ _ (λ none. some (e ∙ none)) in
+      let no : eqb (refused_export memory buffer) 0 ≡ false = ne_eqb _ _ (λ none_given. some_number why (e ∙ none_given)) in
       record {
         refuses = e;
-        counts = sym (ap (λ (t : Bool). cond t (length text) 0) no);
+        counts = tt;
         leaves = sym (ap (λ (t : Bool). cond t (text ++ drop (length text) buffer) buffer) no);
       }
 
   pub accepted_exports :
       {after : List ℕ} {end : ℕ} → 0 ≡ refused_export memory buffer → length (exported memory) ≤ length buffer →
-      Places (exported memory) buffer 0 after end → Exports memory buffer (record { refusal = Accepted; length = end }) after
+      Places (exported memory) buffer 0 after end → Exports memory buffer (Ok end) after
   accepted_exports e enough done =
       let text = exported memory in
       let n = length text in
@@ -94,16 +90,22 @@ module _ (memory buffer : List ℕ) where
       let fits : 0 + n ≤ length buffer = rw (zero-add n) enough in
       record {
         refuses = e;
-        counts = done.ends ∙ zero-add n ∙ sym (ap (λ (t : Bool). cond t n 0) yes);
+        counts = done.ends ∙ zero-add n;
         leaves = done.places ∙ sets-eq text buffer 0 fits ∙ ap (λ (k : ℕ). text ++ drop k buffer) (zero-add n)
             ∙ sym (ap (λ (t : Bool). cond t (text ++ drop n buffer) buffer) yes);
       }
 
 -- Any two results that the promise allows coincide.
 pub export_determined :
-    (memory buffer : List ℕ) (a b : Exported) (after other : List ℕ) → Exports memory buffer a after → Exports memory buffer b other →
-    (a ≡ b) × (after ≡ other)
+    (memory buffer : List ℕ) (a b : Result ℕ Refusal) (after other : List ℕ) → Exports memory buffer a after →
+    Exports memory buffer b other → (a ≡ b) × (after ≡ other)
 export_determined memory buffer a b after other p q =
-    let why : a.refusal ≡ b.refusal = refusal_determined a.refusal b.refusal (p.refuses ∙ sym q.refuses) in
-    let many : a.length ≡ b.length = p.counts ∙ sym q.counts in
-    (λ i. record { refusal = why i; length = many i }, p.leaves ∙ sym q.leaves)
+    (go a b p.counts q.counts (p.refuses ∙ sym q.refuses), p.leaves ∙ sym q.leaves)
+  where
+    go :
+        (a b : Result ℕ Refusal) → IfOk a (λ n. n ≡ length (exported memory)) → IfOk b (λ n. n ≡ length (exported memory)) →
+        number_of a ≡ number_of b → a ≡ b
+    go (Ok m) (Ok n) e f same = ap Ok (e ∙ sym f)
+    go (Ok m) (Err s) e f same = absurd (some_number s (sym same))
+    go (Err r) (Ok n) e f same = absurd (some_number r same)
+    go (Err r) (Err s) e f same = ap Err (refusal_determined r s same)

@@ -1,8 +1,7 @@
 -- A line's tests: by itself and among the earlier lines, and what a line that passes writes.
 -- Assumes nothing.
-use Rattle.std.proofs.Common.{◌≡◌, ℕ, ◌+◌, ◌%◌, ◌<◌, ◌≤◌, Bool, true, false, cond, not, ◌&&◌, eqb, ltb, List, [], ◌∷◌, length, refl, arith, ltb-false, ne_eqb}
+use Rattle.std.proofs.Common.{◌≡◌, ℕ, ◌+◌, ◌%◌, ◌<◌, ◌≤◌, Bool, true, false, cond, not, ◌&&◌, eqb, ltb, List, [], ◌∷◌, length, refl, arith, ltb-false, ne_eqb, Some}
 use mathlib.Core.Bool.{and-eq-true_iff}
-use mathlib.Core.Option.{some}
 use borrow.Author.Tests.{eqb-false}
 use Rattle.memory.specs.Lengths.{first, test}
 use Rattle.srecord.specs.Load.{closed, data_lines, end_of, kind_of, record_tests, sum, writes, written_twice}
@@ -41,7 +40,7 @@ one_passed false false true e h = absurd (eqb-false 12 0 refl h)
 one_passed false false false e h = refl
 
 -- An S5 line writes nothing.
-count_writes_nothing : (r : Record) (a : ℕ) → is_count (kind_of r) ≡ true → writes (some r) a ≡ true → ⊥
+count_writes_nothing : (r : Record) (a : ℕ) → is_count (kind_of r) ≡ true → writes (Some r) a ≡ true → ⊥
 count_writes_nothing r a h w = go (kind_of r) (carried r) h (inside r a w)
   where
     go :
@@ -67,20 +66,20 @@ module _ (size : ℕ) (r : Record) where
   wrong count = is_count (kind_of r) && not (eqb (address r) count)
 
   -- A line that passes 12 writes below the memory's end.
-  writes_below : (a : ℕ) → outside ≡ false → writes (some r) a ≡ true → a < size
+  writes_below : (a : ℕ) → outside ≡ false → writes (Some r) a ≡ true → a < size
   writes_below a passed h =
       let w = inside r a h in
       let carries : length (data_of r) ≡ 0 → ⊥ = λ empty. omega arith in
       let fits : end_of r ≤ size = ltb-false _ _ (rw (ne_eqb (length (data_of r)) 0 carries) at passed) in
       omega arith
 
-  pub below : (shut : Bool) (count a : ℕ) → alone shut count ≡ 0 → writes (some r) a ≡ true → a < size
+  pub below : (shut : Bool) (count a : ℕ) → alone shut count ≡ 0 → writes (Some r) a ≡ true → a < size
   unfolding single_tests
   below shut count a e = writes_below a (one_passed shut bad outside (wrong count) e)
 
   pub accepted_line :
       (earlier : List Record) → first (record_tests size earlier r) ≡ 0 →
-      ((a : ℕ) → writes (some r) a ≡ true → a < size) × (written_twice r earlier ≡ false)
+      ((a : ℕ) → writes (Some r) a ≡ true → a < size) × (written_twice r earlier ≡ false)
   unfolding record_tests
   accepted_line earlier e =
       let both = both_passed (closed earlier) bad outside (written_twice r earlier) (wrong (data_lines earlier)) e in
@@ -88,7 +87,7 @@ module _ (size : ℕ) (r : Record) where
 
   -- A line's refusal among the earlier ones, from that by itself.
   pub refusal :
-      (earlier : List Record) → (written_twice r earlier ≡ true → (a : ℕ) × (writes (some r) a ≡ true)) →
+      (earlier : List Record) → (written_twice r earlier ≡ true → (a : ℕ) × (writes (Some r) a ≡ true)) →
       let number = alone (closed earlier) (data_lines earlier) in
       first (record_tests size earlier r) ≡ cond (eqb number 0) (cond (written_twice r earlier) 13 0) number
   unfolding record_tests single_tests

@@ -99,11 +99,11 @@ between_more low i after j = go (eqb j i) refl
 -- Nothing asked for, nothing marked.
 pub marks_nothing :
     (marks : List ℕ) (wanted : ℕ → Bool) → ((i : ℕ) → i < 229376 → wanted i ≡ false) → Marks marks wanted false marks
-marks_nothing marks wanted none =
+marks_nothing marks wanted None =
     record {
       taken = λ e. absurd (false≢true e);
-      free = λ e i below w. absurd (false≢true (sym (none i below) ∙ w));
-      now = λ e i below. rw (none i below, or-false);
+      free = λ e i below w. absurd (false≢true (sym (None i below) ∙ w));
+      now = λ e i below. rw (None i below, or-false);
     }
 
 module _ {before after : List ℕ} {wanted : ℕ → Bool} where

@@ -1,57 +1,54 @@
 -- Laws of bytes read from pairs of digits.
 -- Assumes nothing.
-use Rattle.std.proofs.Common.{◌≡◌, ℕ, zero, suc, ◌+◌, ◌*◌, ◌/◌, ◌%◌, ◌^◌, ◌<◌, ◌≤◌, Bool, true, false, ◌&&◌, ltb, List, [], ◌∷◌, length, get_or, drop, sym, refl, ap, ◌∙◌, not-suc-le-zero, pow-suc, add-one, arith, drop-cons, ltb-false, ltb-true}
-use mathlib.Core.Option.{Option, none, some}
+use Rattle.std.proofs.Common.{◌≡◌, ℕ, zero, suc, ◌+◌, ◌-◌, ◌*◌, ◌/◌, ◌%◌, ◌^◌, ◌<◌, ◌≤◌, Bool, true, false, ◌&&◌, ltb, List, [], ◌∷◌, length, get_or, drop, take, sym, refl, ap, ◌∙◌, not-suc-le-zero, pow-suc, add-one, arith, length-take, get_or-drop, get_or-take, drop-cons, ltb-false, ltb-true, Option, None, Some}
 use native.Mathlib.Nat.{pow-le-pow_right}
 use lib.ListN.{get_or-eq_default}
 use lib.Seq.{drop-length}
 use Rattle.memory.specs.Access.{value_at}
 use Rattle.memory.proofs.Bytes.{Bytes}
-use Rattle.text.specs.Reading.{and_then, digit_value, is_number, read_on, value}
+use Rattle.text.specs.Reading.{digit_value, read_on, value}
 use Rattle.text.specs.declared.reading.Letters.TheVariants.{EitherCase}
-use Rattle.text.specs.declared.reading.Read.{Read}
-use Rattle.text.specs.declared.reading.Read.TheVariants.{Number, NotHex}
 use Rattle.text.proofs.Values.{ValueOfDigit, digit_small}
 use Rattle.srecord.specs.Records.{before, bytes_of}
 use Rattle.srecord.specs.Load.{sum}
-use Rattle.srecord.specs.Promises.{ByteAt, pair_at, total_of}
-use Rattle.srecord.specs.declared.records.Total.{Total}
-use Rattle.srecord.specs.declared.records.Total.TheVariants as total
+use Rattle.std.specs.Option.{is_some, option_and_then, option_map}
+use Rattle.std.specs.Simd.{first_chunks}
+use Rattle.srecord.specs.Promises.{ByteOf, Make}
 
-pub never : {A : Type 0} {a : A} → none ≡ some a → ⊥
+pub never : {A : Type 0} {a : A} → None ≡ Some a → ⊥
 never e = let z : ◌≡◌ {A = ℕ} 0 1 = cc in omega arith
 
 -- A pair's byte, by its two digits.
-abbrev pub joined : Read → Read → Read
-joined (Number h) (Number l) = Number (h * 16 + l)
-joined (Number h) NotHex = NotHex
-joined NotHex l = NotHex
+abbrev pub joined : Option ℕ → Option ℕ → Option ℕ
+joined (Some h) (Some l) = Some (h * 16 + l)
+joined (Some h) None = None
+joined None l = None
 
 pub of_two : (a b : ℕ) → value EitherCase (a ∷ b ∷ []) ≡ joined (digit_value EitherCase a) (digit_value EitherCase b)
 unfolding read_on
 of_two a b = go (digit_value EitherCase a) (digit_value EitherCase b)
   where
-    go : (h l : Read) → and_then h (λ m. and_then l (λ n. Number ((0 * 16 + m) * 16 + n))) ≡ joined h l
-    go (Number h) (Number l) = ap Number (omega arith)
-    go (Number h) NotHex = refl
-    go NotHex l = refl
+    go : (h l : Option ℕ) → option_and_then (λ m. option_and_then (λ n. Some ((0 * 16 + m) * 16 + n)) l) h ≡ joined h l
+    go (Some h) (Some l) = ap Some (omega arith)
+    go (Some h) None = refl
+    go None l = refl
 
 -- A pair that is read, in front of bytes that are.
 module _ (h l : ℕ) (rest bytes : List ℕ) where
   taken_apart :
-      bytes_of (h ∷ l ∷ rest) ≡ some bytes →
-      (b : ℕ) × (more : List ℕ) × (bytes ≡ b ∷ more) × (value EitherCase (h ∷ l ∷ []) ≡ Number b) × (bytes_of rest ≡ some more)
+      bytes_of (h ∷ l ∷ rest) ≡ Some bytes →
+      (b : ℕ) × (more : List ℕ) × (bytes ≡ b ∷ more) × (value EitherCase (h ∷ l ∷ []) ≡ Some b) × (bytes_of rest ≡ Some more)
   unfolding bytes_of
   taken_apart = go (value EitherCase (h ∷ l ∷ [])) (bytes_of rest)
     where
       go :
-          (r : Read) (o : Option (List ℕ)) → before r o ≡ some bytes →
-          (b : ℕ) × (more : List ℕ) × (bytes ≡ b ∷ more) × (r ≡ Number b) × (o ≡ some more)
-      go (Number b) (some more) e = (b, more, cc, refl, refl)
-      go (Number b) none e = absurd (never e)
-      go NotHex o e = absurd (never e)
+          (r : Option ℕ) (o : Option (List ℕ)) → before r o ≡ Some bytes →
+          (b : ℕ) × (more : List ℕ) × (bytes ≡ b ∷ more) × (r ≡ Some b) × (o ≡ Some more)
+      go (Some b) (Some more) e = (b, more, cc, refl, refl)
+      go (Some b) None e = absurd (never e)
+      go None o e = absurd (never e)
 
-pub twice_as_long : (digits bytes : List ℕ) → bytes_of digits ≡ some bytes → length digits ≡ 2 * length bytes
+pub twice_as_long : (digits bytes : List ℕ) → bytes_of digits ≡ Some bytes → length digits ≡ 2 * length bytes
 unfolding bytes_of
 twice_as_long [] bytes e = let same : bytes ≡ [] = cc in rw same
 twice_as_long (a ∷ []) bytes e = absurd (never e)
@@ -59,8 +56,12 @@ twice_as_long (a ∷ b ∷ rest) bytes e =
     let t = taken_apart a b rest bytes e in
     rw t.2 (omega (arith, twice_as_long rest t.1 t.4))
 
+-- The pair of digits number i, and the byte that it makes.
+abbrev pub pair_at : List ℕ → ℕ → List ℕ
+pair_at digits i = get_or digits (2 * i) 0 ∷ get_or digits (2 * i + 1) 0 ∷ []
+
 pub pair_of :
-    (digits bytes : List ℕ) → bytes_of digits ≡ some bytes → (i : ℕ) → i < length bytes → pair_at digits i ≡ Number (get_or bytes i 0)
+    (digits bytes : List ℕ) → bytes_of digits ≡ Some bytes → (i : ℕ) → i < length bytes → value EitherCase (pair_at digits i) ≡ Some (get_or bytes i 0)
 unfolding bytes_of
 pair_of [] bytes e i inside = let same : bytes ≡ [] = cc in absurd (not-suc-le-zero (rw same at inside))
 pair_of (a ∷ []) bytes e i inside = absurd (never e)
@@ -72,21 +73,27 @@ pair_of (a ∷ b ∷ rest) bytes e (suc i) inside =
     let low : 2 * suc i + 1 ≡ suc (suc (2 * i + 1)) = omega arith in
     rw (t.2, low, high) (pair_of rest t.1 t.4 i (omega arith))
 
+pub two_digits : (pair : List ℕ) → length pair ≡ 2 → pair ≡ get_or pair 0 0 ∷ get_or pair 1 0 ∷ []
+two_digits [] two = absurd (omega arith)
+two_digits (a ∷ []) two = absurd (omega arith)
+two_digits (a ∷ b ∷ []) two = refl
+two_digits (a ∷ b ∷ x ∷ rest) two = absurd (omega arith)
+
 -- The byte of a pair of digits, by the digits' values.
 module _ (a b : ℕ) where
   by_values :
-      (n : ℕ) → value EitherCase (a ∷ b ∷ []) ≡ Number n →
-      (h : ℕ) × (l : ℕ) × (digit_value EitherCase a ≡ Number h) × (digit_value EitherCase b ≡ Number l) × (n ≡ h * 16 + l)
+      (n : ℕ) → value EitherCase (a ∷ b ∷ []) ≡ Some n →
+      (h : ℕ) × (l : ℕ) × (digit_value EitherCase a ≡ Some h) × (digit_value EitherCase b ≡ Some l) × (n ≡ h * 16 + l)
   by_values n e = go (digit_value EitherCase a) (digit_value EitherCase b) (sym (of_two a b) ∙ e)
     where
       go :
-          (r s : Read) → joined r s ≡ Number n →
-          (h : ℕ) × (l : ℕ) × (r ≡ Number h) × (s ≡ Number l) × (n ≡ h * 16 + l)
-      go (Number h) (Number l) e = (h, l, refl, refl, cc)
-      go (Number h) NotHex e = let z : ◌≡◌ {A = ℕ} 0 1 = cc in absurd (omega arith)
-      go NotHex s e = let z : ◌≡◌ {A = ℕ} 0 1 = cc in absurd (omega arith)
+          (r s : Option ℕ) → joined r s ≡ Some n →
+          (h : ℕ) × (l : ℕ) × (r ≡ Some h) × (s ≡ Some l) × (n ≡ h * 16 + l)
+      go (Some h) (Some l) e = (h, l, refl, refl, cc)
+      go (Some h) None e = let z : ◌≡◌ {A = ℕ} 0 1 = cc in absurd (omega arith)
+      go None s e = let z : ◌≡◌ {A = ℕ} 0 1 = cc in absurd (omega arith)
 
-  pub pair_small : (n : ℕ) → value EitherCase (a ∷ b ∷ []) ≡ Number n → n < 256
+  pub pair_small : (n : ℕ) → value EitherCase (a ∷ b ∷ []) ≡ Some n → n < 256
   pair_small n e =
       let v = by_values n e in
       let high = digit_small EitherCase a (sym v.2) in
@@ -94,28 +101,28 @@ module _ (a b : ℕ) where
       omega (arith, v.4)
 
   pub pair_value :
-      {h l : ℕ} → ValueOfDigit a h → ValueOfDigit b l → (n : ℕ) → value EitherCase (a ∷ b ∷ []) ≡ Number n → (h * 16 + l) % 256 ≡ n
+      {h l : ℕ} → ValueOfDigit a h → ValueOfDigit b l → (n : ℕ) → value EitherCase (a ∷ b ∷ []) ≡ Some n → (h * 16 + l) % 256 ≡ n
   pair_value {h} {l} high low n e =
       let v = by_values n e in
       let small = pair_small n e in
       omega (arith, v.4, high v.0 v.2, low v.1 v.3)
 
-pub bytes_small : (digits bytes : List ℕ) → bytes_of digits ≡ some bytes → Bytes bytes
+pub bytes_small : (digits bytes : List ℕ) → bytes_of digits ≡ Some bytes → Bytes bytes
 bytes_small digits bytes e i = go (ltb i (length bytes)) refl
   where
     go : (t : Bool) → ltb i (length bytes) ≡ t → get_or bytes i 0 < 256
     go true inside = pair_small _ _ (get_or bytes i 0) (pair_of digits bytes e i (ltb-true i (length bytes) inside))
     go false outside = rw (get_or-eq_default bytes 0 (ltb-false i (length bytes) outside)) (omega arith)
 
--- The sum over what was read, with what is left.
-abbrev pub with_rest : Bool → ℕ → Option (List ℕ) → Total
-with_rest good s none = total.NotHex
-with_rest false s (some bytes) = total.NotHex
-with_rest true s (some bytes) = total.Sum ((s + sum bytes) % 256)
+-- The low byte of the sum, where there are bytes.
+abbrev pub total_of : Option (List ℕ) → Option ℕ
+total_of x = option_map (λ bytes. sum bytes % 256) x
 
-pub from_zero : (o : Option (List ℕ)) → with_rest true 0 o ≡ total_of o
-from_zero none = refl
-from_zero (some bytes) = ap total.Sum (omega arith)
+-- The sum over what was read, with what is left.
+abbrev pub with_rest : Bool → ℕ → Option (List ℕ) → Option ℕ
+with_rest good s None = None
+with_rest false s (Some bytes) = None
+with_rest true s (Some bytes) = Some ((s + sum bytes) % 256)
 
 -- Behind the last digit.
 module _ (digits : List ℕ) (s i : ℕ) (good : Bool) (done : 2 * i ≡ length digits) where
@@ -123,44 +130,44 @@ module _ (digits : List ℕ) (s i : ℕ) (good : Bool) (done : 2 * i ≡ length 
   none_left = rw done (drop-length digits)
 
   pub ends_good :
-      good ≡ true → with_rest good s (bytes_of (drop (2 * i) digits)) ≡ total_of (bytes_of digits) → total.Sum (s % 256) ≡ total_of (bytes_of digits)
+      good ≡ true → with_rest good s (bytes_of (drop (2 * i) digits)) ≡ total_of (bytes_of digits) → Some (s % 256) ≡ total_of (bytes_of digits)
   unfolding bytes_of
-  ends_good e inv = ap total.Sum (omega arith) ∙ rw (e, none_left) at inv
+  ends_good e inv = ap Some (omega arith) ∙ rw (e, none_left) at inv
 
   pub ends_bad :
-      good ≡ false → with_rest good s (bytes_of (drop (2 * i) digits)) ≡ total_of (bytes_of digits) → total.NotHex ≡ total_of (bytes_of digits)
+      good ≡ false → with_rest good s (bytes_of (drop (2 * i) digits)) ≡ total_of (bytes_of digits) → None ≡ total_of (bytes_of digits)
   unfolding bytes_of
   ends_bad e inv = rw (e, none_left) at inv
 
 pub one_pair :
     (a b : ℕ) (rest : List ℕ) {h l : ℕ} → ValueOfDigit a h → ValueOfDigit b l → (good : Bool) (s : ℕ) →
-    with_rest ((good && is_number (digit_value EitherCase a)) && is_number (digit_value EitherCase b)) ((s + (h * 16 + l)) % 2 ^ 32) (bytes_of rest) ≡
+    with_rest ((good && is_some (digit_value EitherCase a)) && is_some (digit_value EitherCase b)) ((s + (h * 16 + l)) % 2 ^ 32) (bytes_of rest) ≡
     with_rest good s (bytes_of (a ∷ b ∷ rest))
 unfolding bytes_of
 one_pair a b rest {h} {l} high low good s =
     rw (of_two a b) (go (digit_value EitherCase a) (digit_value EitherCase b) (bytes_of rest) good high low)
   where
     go :
-        (r t : Read) (o : Option (List ℕ)) (good : Bool) → ((d : ℕ) → r ≡ Number d → h ≡ d) → ((d : ℕ) → t ≡ Number d → l ≡ d) →
-        with_rest ((good && is_number r) && is_number t) ((s + (h * 16 + l)) % 2 ^ 32) o ≡ with_rest good s (before (joined r t) o)
-    go (Number x) (Number y) (some bytes) true p q =
-        let hx = p x refl in let ly = q y refl in rw (hx, ly) (ap total.Sum (omega arith))
-    go (Number x) (Number y) (some bytes) false p q = refl
-    go (Number x) (Number y) none good p q = refl
-    go (Number x) NotHex (some bytes) true p q = refl
-    go (Number x) NotHex (some bytes) false p q = refl
-    go (Number x) NotHex none good p q = refl
-    go NotHex t (some bytes) true p q = refl
-    go NotHex t (some bytes) false p q = refl
-    go NotHex t none good p q = refl
+        (r t : Option ℕ) (o : Option (List ℕ)) (good : Bool) → ((d : ℕ) → r ≡ Some d → h ≡ d) → ((d : ℕ) → t ≡ Some d → l ≡ d) →
+        with_rest ((good && is_some r) && is_some t) ((s + (h * 16 + l)) % 2 ^ 32) o ≡ with_rest good s (before (joined r t) o)
+    go (Some x) (Some y) (Some bytes) true p q =
+        let hx = p x refl in let ly = q y refl in rw (hx, ly) (ap Some (omega arith))
+    go (Some x) (Some y) (Some bytes) false p q = refl
+    go (Some x) (Some y) None good p q = refl
+    go (Some x) None (Some bytes) true p q = refl
+    go (Some x) None (Some bytes) false p q = refl
+    go (Some x) None None good p q = refl
+    go None t (Some bytes) true p q = refl
+    go None t (Some bytes) false p q = refl
+    go None t None good p q = refl
 
 -- An odd number of digits makes no bytes.
-pub odd : (digits : List ℕ) → (length digits ≡ 2 * (length digits / 2) → ⊥) → total.NotHex ≡ total_of (bytes_of digits)
+pub odd : (digits : List ℕ) → (length digits % 2 ≡ 0 → ⊥) → None ≡ total_of (bytes_of digits)
 odd digits uneven = go (bytes_of digits) refl
   where
-    go : (o : Option (List ℕ)) → bytes_of digits ≡ o → total.NotHex ≡ total_of o
-    go none e = refl
-    go (some bytes) e = absurd (uneven (omega (arith, twice_as_long digits bytes e)))
+    go : (o : Option (List ℕ)) → bytes_of digits ≡ o → None ≡ total_of o
+    go None e = refl
+    go (Some bytes) e = absurd (uneven (omega (arith, twice_as_long digits bytes e)))
 
 -- Two digits taken off.
 pub two_off :
@@ -171,10 +178,42 @@ two_off digits i inside =
     let second : 2 * (i + 1) ≡ suc (suc (2 * i)) = omega arith in
     rw (drop-cons digits (2 * i) 0 (omega arith), first, second, drop-cons digits (suc (2 * i)) 0 (omega arith))
 
+-- The digits cut into pairs.
+pub pair_among :
+    (n : ℕ) (digits : List ℕ) (i : ℕ) → 2 * n ≤ length digits → i < n → (d : List ℕ) → get_or (first_chunks 2 n digits) i d ≡ pair_at digits i
+pair_among zero digits i room inside d = absurd (not-suc-le-zero inside)
+pair_among (suc n) [] i room inside d = absurd (omega arith)
+pair_among (suc n) (a ∷ []) i room inside d = absurd (omega arith)
+pair_among (suc n) (a ∷ b ∷ digits) zero room inside d = refl
+pair_among (suc n) (a ∷ b ∷ digits) (suc i) room inside d =
+    let high : 2 * suc i ≡ suc (suc (2 * i)) = omega arith in
+    let low : suc (suc (2 * i)) + 1 ≡ suc (suc (2 * i + 1)) = omega arith in
+    rw (high, low) (pair_among n digits i (omega arith) (omega arith) d)
+
+-- They make the bytes that the digits make,
+pub pairs_make :
+    (digits bytes : List ℕ) → bytes_of digits ≡ Some bytes → (i : ℕ) → i < length bytes →
+    value EitherCase (get_or (first_chunks 2 (length digits / 2) digits) i []) ≡ Some (get_or bytes i 0)
+pairs_make digits bytes known i inside =
+    let long = twice_as_long digits bytes known in
+    rw (pair_among (length digits / 2) digits i (omega arith) (omega (arith, long)) []) (pair_of digits bytes known i inside)
+
+-- and a part of them makes a part of these.
+pub part_makes :
+    (pairs : List (List ℕ)) (bytes : List ℕ) (n : ℕ) →
+    ((i : ℕ) → i < n → value EitherCase (get_or pairs i []) ≡ Some (get_or bytes i 0)) → (from to : ℕ) → to ≤ n →
+    Make (take (to - from) (drop from pairs)) bytes from
+part_makes pairs bytes n make from to few i inside =
+    let part : i < to - from = omega (arith, length-take (to - from) (drop from pairs)) in
+    rw (get_or-take (to - from) (drop from pairs) i [] part, get_or-drop from pairs i []) (make (from + i) (omega arith))
+
 -- A number read byte by byte.
-pub none_yet : (digits : List ℕ) (at : ℕ) (bytes : List ℕ) → bytes_of digits ≡ some bytes → 0 ≡ value_at 0 bytes at
+abbrev pub SoFar : List (List ℕ) → ℕ → ℕ → Type 0
+SoFar pairs i n = (bytes : List ℕ) (at : ℕ) → Make pairs bytes at → n ≡ value_at i bytes at
+
+pub none_yet : (pairs : List (List ℕ)) → SoFar pairs 0 0
 unfolding value_at
-none_yet digits at bytes e = refl
+none_yet pairs bytes at make = refl
 
 pub below_power : (n i : ℕ) → n < 256 ^ i → i < 4 → n < 16777216
 below_power n i small few =
@@ -185,10 +224,7 @@ pub power_more : (n b i : ℕ) → n < 256 ^ i → b < 256 → n * 256 + b < 256
 power_more n b i small byte = rw (add-one i, pow-suc 256 i) (omega arith)
 
 pub byte_more :
-    (digits : List ℕ) (at i n b : ℕ) → 2 * (at + i) + 1 < length digits → ByteAt digits (at + i) b →
-    ((bytes : List ℕ) → bytes_of digits ≡ some bytes → n ≡ value_at i bytes at) → (bytes : List ℕ) → bytes_of digits ≡ some bytes →
-    n * 256 + b ≡ value_at (i + 1) bytes at
+    (pairs : List (List ℕ)) (i n b : ℕ) → i < length pairs → ByteOf (get_or pairs i []) b → SoFar pairs i n → SoFar pairs (i + 1) (n * 256 + b)
 unfolding value_at
-byte_more digits at i n b inside here before bytes e =
-    let room : at + i < length bytes = omega (arith, twice_as_long digits bytes e) in
-    rw (add-one i, before bytes e, here (get_or bytes (at + i) 0) (pair_of digits bytes e (at + i) room))
+byte_more pairs i n b inside here before bytes at make =
+    rw (add-one i, before bytes at make, here (get_or bytes (at + i) 0) (make i inside))

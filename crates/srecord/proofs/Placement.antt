@@ -1,77 +1,70 @@
 -- Laws of data written into the memory, byte by byte and line by line.
 -- Assumes nothing.
-use Rattle.std.proofs.Common.{◌≡◌, ℕ, suc, ◌+◌, ◌-◌, ◌*◌, ◌<◌, ◌≤◌, Bool, true, false, cond, eqb, List, ◌∷◌, map, length, get_or, take, drop, set, sym, refl, ap, ◌∙◌, le_refl, not-suc-le-zero, add-zero, add-one, arith, length-drop, drop_of_length-le, length-take, length-take-le, get_or-drop, take_all, drop-cons, get_or-take, take-take, take-add, drop_at, eqb-true}
+use Rattle.std.proofs.Common.{◌≡◌, ℕ, suc, ◌+◌, ◌-◌, ◌*◌, ◌/◌, ◌<◌, ◌≤◌, Bool, true, false, cond, eqb, List, [], ◌∷◌, map, length, get_or, take, drop, set, sym, refl, ap, ◌∙◌, le_refl, add-one, arith, length-drop, length-take, length-take-le, get_or-drop, take_all, drop-cons, get_or-take, take-take, eqb-true, Option, None, Some}
 use mathlib.Core.Bool.{and-eq-true_iff}
-use mathlib.Core.Option.{Option, none, some}
 use lib.Seq.{sets}
-use Rattle.text.specs.declared.reading.Read.TheVariants.{Number}
-use Rattle.srecord.specs.Lines.{content, cut, ends_in, without_last}
+use Rattle.std.specs.List.{slice_get}
+use Rattle.std.specs.Simd.{first_chunks}
+use Rattle.text.specs.Reading.{value}
+use Rattle.text.specs.declared.reading.Letters.TheVariants.{EitherCase}
+use Rattle.srecord.specs.Lines.{content, ends_in, lines, without_last}
 use Rattle.srecord.specs.Load.{placed, records}
-use Rattle.srecord.specs.Records.{Opening, Record, bytes_of, carried, data_for, data_of, fits, may, opening_of, record_of}
-use Rattle.srecord.specs.Promises.{ByteAt, LineAt, ended, length_for, opened, pair_at, placed_by, with_bytes}
+use Rattle.srecord.specs.Records.{Record, and_then, address, bytes_of, carried, data_for, data_of, fits, may, opening_of, record_of}
+use Rattle.srecord.specs.Promises.{ByteOf, Make, NumberOf, length_for, placed_by, with_bytes}
 use Rattle.srecord.specs.declared.openings.Kind.{Kind}
 use Rattle.srecord.specs.declared.openings.Kind.TheVariants.{Header, Data, Count, Closing}
-use Rattle.srecord.proofs.Pairs.{never, pair_of, twice_as_long}
-use Rattle.srecord.proofs.Summaries.{length_for_data, may_least}
+use Rattle.srecord.specs.declared.openings.Opening.{Opening}
+use Rattle.srecord.proofs.Cutting.{no_line}
+use Rattle.srecord.proofs.Pairs.{never, pair_of, pair_among, part_makes, twice_as_long}
+use Rattle.srecord.proofs.Summaries.{Cut, first_pair, length_for_data, may_least, no_pair, number_length}
 
--- What is left to write of n bytes behind the first i.
-abbrev pub StillPlaces : List ℕ → ℕ → ℕ → List ℕ → ℕ → ℕ → List ℕ → Type 0
-StillPlaces digits from n memory address i now =
-    (bytes : List ℕ) → length bytes ≡ n → ((j : ℕ) → j < n → pair_at digits (from + j) ≡ Number (get_or bytes j 0)) →
-    sets now (address + i) (drop i bytes) ≡ sets memory address bytes
+-- What is left to write of the bytes that pairs of digits make, behind the first i.
+abbrev pub StillPlaces : List (List ℕ) → List ℕ → ℕ → ℕ → List ℕ → Type 0
+StillPlaces pairs memory address i now =
+    (bytes : List ℕ) → length bytes ≡ length pairs → Make pairs bytes 0 → sets now (address + i) (drop i bytes) ≡ sets memory address bytes
 
-module _ (digits : List ℕ) (from n : ℕ) (memory : List ℕ) (address : ℕ) where
-  pub none_placed : StillPlaces digits from n memory address 0 memory
-  none_placed bytes all pairs = rw (add-zero address)
-
-  module _ (i : ℕ) (now : List ℕ) (still : StillPlaces digits from n memory address i now) where
+module _ (pairs : List (List ℕ)) (memory : List ℕ) (address : ℕ) where
+  module _ (i : ℕ) (now : List ℕ) (still : StillPlaces pairs memory address i now) where
     pub one_placed :
-        (b : ℕ) → i < n → ByteAt digits (from + i) b → StillPlaces digits from n memory address (i + 1) (set now (address + i) b)
-    one_placed b more here bytes all pairs =
+        (b : ℕ) → i < length pairs → ByteOf (get_or pairs i []) b → StillPlaces pairs memory address (i + 1) (set now (address + i) b)
+    one_placed b more here bytes all make =
         let next : address + (i + 1) ≡ suc (address + i) = omega arith in
         let inside : i < length bytes = omega arith in
-        rw (next, add-one i, here (get_or bytes i 0) (pairs i more)) (rw (drop-cons bytes i 0 inside) at (still bytes all pairs))
-
-    pub all_placed :
-        n ≤ i → (bytes : List ℕ) → length bytes ≡ n → ((j : ℕ) → j < n → pair_at digits (from + j) ≡ Number (get_or bytes j 0)) →
-        now ≡ sets memory address bytes
-    all_placed done bytes all pairs =
-        let over : length bytes ≤ i = omega arith in
-        rw (drop_of_length-le bytes over) at (still bytes all pairs)
+        let first : 0 + i ≡ i = omega arith in
+        rw (next, add-one i, here (get_or bytes i 0) (rw first at (make i more))) (rw (drop-cons bytes i 0 inside) at (still bytes all make))
 
 -- One line after the other.
-module _ (memory text : List ℕ) (at : ℕ) where
-  pub line_placed :
-      (next : ℕ) → LineAt text at next →
-      placed (placed_by memory (record_of (take (next - at) (drop at text)))) (records (drop next text)) ≡ placed memory (records (drop at text))
-  unfolding placed
-  line_placed next line = rw (ap (map record_of) line.cuts) (go (record_of (take (next - at) (drop at text))))
-    where
-      go :
-          (o : Option Record) →
-          placed (placed_by memory o) (records (drop next text)) ≡ placed memory (o ∷ records (drop next text))
-      go none = refl
-      go (some r) = refl
+pub line_placed :
+    (memory x rest more : List ℕ) → lines rest ≡ x ∷ lines more →
+    placed (placed_by memory (record_of x)) (records more) ≡ placed memory (records rest)
+unfolding placed
+line_placed memory x rest more cuts = rw (ap (map record_of) cuts) (go (record_of x))
+  where
+    go : (o : Option Record) → placed (placed_by memory o) (records more) ≡ placed memory (o ∷ records more)
+    go None = refl
+    go (Some r) = refl
 
-  pub nothing_to_place : length text ≤ at → memory ≡ placed memory (records (drop at text))
-  unfolding placed cut
-  nothing_to_place over = rw (drop_of_length-le text over)
+pub nothing_to_place : (memory rest : List ℕ) → length rest ≡ 0 → memory ≡ placed memory (records rest)
+unfolding placed
+nothing_to_place memory rest none_left = rw (no_line rest none_left)
 
 -- All that stands behind the opening.
 pub whole : (line : List ℕ) → take (length line - 2) (drop 2 line) ≡ drop 2 line
 whole line = take_all (length line - 2) (drop 2 line) (rw (length-drop 2 line) (le_refl (length line - 2)))
 
-pub same_opening : {x : Option Opening} {o p : Opening} → x ≡ some o → x ≡ some p → o ≡ p
-same_opening e f = cc
+pub cut_behind :
+    (line : List ℕ) {pairs : List (List ℕ)} → pairs ≡ first_chunks 2 (length (take (length line - 2) (drop 2 line)) / 2) (take (length line - 2) (drop 2 line)) →
+    length pairs ≡ length (take (length line - 2) (drop 2 line)) / 2 → Cut (drop 2 line) pairs
+cut_behind line front many = record { front = rw (whole line) at front; many = rw (whole line) at many }
 
 -- A line's content is a part of the line, from its begin.
-content_takes : (line c : List ℕ) → content line ≡ some c → (e : ℕ) × (c ≡ take e line) × (e ≤ length line)
+content_takes : (line c : List ℕ) → content line ≡ Some c → (e : ℕ) × (c ≡ take e line) × (e ≤ length line)
 unfolding content
 content_takes line c = go (ends_in 10 line) (ends_in 13 (without_last line))
   where
     go :
         (feed return : Bool) →
-        cond feed (some (cond return (without_last (without_last line)) (without_last line))) none ≡ some c →
+        cond feed (Some (cond return (without_last (without_last line)) (without_last line))) None ≡ Some c →
         (e : ℕ) × (c ≡ take e line) × (e ≤ length line)
     go true true e =
         let same : without_last (without_last line) ≡ c = cc in
@@ -84,38 +77,44 @@ content_takes line c = go (ends_in 10 line) (ends_in 13 (without_last line))
     go false return e = absurd (never e)
 
 -- A record taken apart into the steps that read it.
-of_ended : (x : Option (List ℕ)) (r : Record) → ended x ≡ some r → (c : List ℕ) × (x ≡ some c) × (opened (opening_of c) c ≡ some r)
-of_ended none r e = absurd (never e)
-of_ended (some c) r e = (c, refl, e)
+abbrev opened : Option Opening → List ℕ → Option Record
+opened x line = and_then x (λ o. with_bytes o (bytes_of (drop 2 line)))
+
+abbrev ended : Option (List ℕ) → Option Record
+ended x = and_then x (λ line. opened (opening_of line) line)
+
+of_ended : (x : Option (List ℕ)) (r : Record) → ended x ≡ Some r → (c : List ℕ) × (x ≡ Some c) × (opened (opening_of c) c ≡ Some r)
+of_ended None r e = absurd (never e)
+of_ended (Some c) r e = (c, refl, e)
 
 of_opened :
-    (x : Option Opening) (line : List ℕ) (r : Record) → opened x line ≡ some r →
-    (o : Opening) × (x ≡ some o) × (with_bytes o (bytes_of (drop 2 line)) ≡ some r)
-of_opened none line r e = absurd (never e)
-of_opened (some o) line r e = (o, refl, e)
+    (x : Option Opening) (line : List ℕ) (r : Record) → opened x line ≡ Some r →
+    (o : Opening) × (x ≡ Some o) × (with_bytes o (bytes_of (drop 2 line)) ≡ Some r)
+of_opened None line r e = absurd (never e)
+of_opened (Some o) line r e = (o, refl, e)
 
 of_bytes :
-    (o : Opening) (x : Option (List ℕ)) (r : Record) → with_bytes o x ≡ some r →
-    (x ≡ some r.bytes) × (fits r.opening r.bytes ≡ true) × (o ≡ r.opening)
-of_bytes o none r e = absurd (never e)
-of_bytes o (some bytes) r e = go (fits o bytes) refl e
+    (o : Opening) (x : Option (List ℕ)) (r : Record) → with_bytes o x ≡ Some r →
+    (x ≡ Some r.bytes) × (fits r.opening r.bytes ≡ true) × (o ≡ r.opening)
+of_bytes o None r e = absurd (never e)
+of_bytes o (Some bytes) r e = go (fits o bytes) refl e
   where
     go :
-        (t : Bool) → fits o bytes ≡ t → cond t (some (record { opening = o; bytes = bytes })) none ≡ some r →
-        (some bytes ≡ some r.bytes) × (fits r.opening r.bytes ≡ true) × (o ≡ r.opening)
+        (t : Bool) → fits o bytes ≡ t → cond t (Some (record { opening = o; bytes = bytes })) None ≡ Some r →
+        (Some bytes ≡ Some r.bytes) × (fits r.opening r.bytes ≡ true) × (o ≡ r.opening)
     go true f e =
         let same : record { opening = o; bytes = bytes } ≡ r = cc in (
-          ap some (ap (λ (x : Record). x.bytes) same),
+          ap Some (ap (λ (x : Record). x.bytes) same),
           sym (ap (λ (x : Record). fits x.opening x.bytes) same) ∙ f,
           ap (λ (x : Record). x.opening) same,
         )
     go false f e = absurd (never e)
 
-module _ (line : List ℕ) (r : Record) (is : record_of line ≡ some r) where
+module _ (line : List ℕ) (r : Record) (is : record_of line ≡ Some r) where
   -- The digits that stand before the line's end.
   read :
-      (e : ℕ) × (e ≤ length line) × (bytes_of (drop 2 (take e line)) ≡ some r.bytes) × (fits r.opening r.bytes ≡ true)
-      × (opening_of (take e line) ≡ some r.opening)
+      (e : ℕ) × (e ≤ length line) × (bytes_of (drop 2 (take e line)) ≡ Some r.bytes) × (fits r.opening r.bytes ≡ true)
+      × (opening_of (take e line) ≡ Some r.opening)
   unfolding record_of
   read =
       let c = of_ended (content line) r is in
@@ -126,7 +125,7 @@ module _ (line : List ℕ) (r : Record) (is : record_of line ≡ some r) where
         t.2,
         sym (ap (λ (l : List ℕ). bytes_of (drop 2 l)) t.1) ∙ b.0,
         b.1,
-        sym (ap opening_of t.1) ∙ o.1 ∙ ap some b.2,
+        sym (ap opening_of t.1) ∙ o.1 ∙ ap Some b.2,
       )
 
   counted : (length r.bytes ≡ get_or r.bytes 0 0 + 1) × (r.opening.width + 1 ≤ get_or r.bytes 0 0)
@@ -148,10 +147,16 @@ module _ (line : List ℕ) (r : Record) (is : record_of line ≡ some r) where
   alike : (i : ℕ) → 2 + i < read.0 → get_or (drop 2 line) i 0 ≡ get_or (drop 2 (take read.0 line)) i 0
   alike i inside = rw (get_or-drop 2 line i 0, get_or-drop 2 (take read.0 line) i 0, get_or-take read.0 line (2 + i) 0 inside)
 
-  line_pairs : (i : ℕ) → i < length r.bytes → pair_at (drop 2 line) i ≡ Number (get_or r.bytes i 0)
-  line_pairs i inside =
-      rw (alike (2 * i) (omega (arith, digits_end)), alike (2 * i + 1) (omega (arith, digits_end)))
-      (pair_of (drop 2 (take read.0 line)) r.bytes read.2 i inside)
+  -- The line cut into pairs behind its opening has all of the record's,
+  module _ {pairs : List (List ℕ)} (cut : Cut (drop 2 line) pairs) where
+    enough : length r.bytes ≤ length pairs
+    enough = omega (arith, digits_end, cut.many, length-drop 2 line, read.1)
+
+    pub line_pairs : (i : ℕ) → i < length r.bytes → value EitherCase (get_or pairs i []) ≡ Some (get_or r.bytes i 0)
+    line_pairs i inside =
+        let among = pair_among (length (drop 2 line) / 2) (drop 2 line) i (omega arith) (omega (arith, enough, cut.many)) [] in
+        rw (cut.front, among, alike (2 * i) (omega (arith, digits_end)), alike (2 * i + 1) (omega (arith, digits_end)))
+        (pair_of (drop 2 (take read.0 line)) r.bytes read.2 i inside)
 
   few : (kind : Kind) → length (data_for kind (carried r)) ≤ get_or r.bytes 0 0 - (r.opening.width + 1)
   few Header = omega arith
@@ -159,52 +164,78 @@ module _ (line : List ℕ) (r : Record) (is : record_of line ≡ some r) where
   few Count = omega arith
   few Closing = omega arith
 
-  -- There are digits for all data of the line,
-  pub room : (2 ≤ length line) × (2 * (r.opening.width + 1 + length (data_of r)) ≤ length line - 2)
-  room = (omega (arith, digits_end, read.1), omega (arith, digits_end, read.1, few r.opening.kind, counted))
+  pub two : 2 ≤ length line
+  two = omega (arith, digits_end, read.1)
 
-  -- and they make these.
-  pub data_pairs :
-      (j : ℕ) → j < length (data_of r) → pair_at (drop 2 line) (r.opening.width + 1 + j) ≡ Number (get_or (data_of r) j 0)
-  data_pairs = go r.opening.kind
-    where
-      go :
-          (kind : Kind) (j : ℕ) → j < length (data_for kind (carried r)) →
-          pair_at (drop 2 line) (r.opening.width + 1 + j) ≡ Number (get_or (data_for kind (carried r)) j 0)
-      go Header j inside = absurd (not-suc-le-zero inside)
-      go Data j inside =
-          let least = r.opening.width + 1 in
-          let n = get_or r.bytes 0 0 - least in
-          rw (get_or-take n (drop least r.bytes) j 0 (omega (arith, few Data)), get_or-drop least r.bytes j 0)
-          (line_pairs (least + j) (omega (arith, few Data, counted)))
-      go Count j inside = absurd (not-suc-le-zero inside)
-      go Closing j inside = absurd (not-suc-le-zero inside)
+  module _ {pairs : List (List ℕ)} (cut : Cut (drop 2 line) pairs) where
+    abbrev least : ℕ
+    least = r.opening.width + 1
+
+    abbrev part : ℕ → List (List ℕ)
+    part n = take (least + n - least) (drop least pairs)
+
+    -- There are pairs for all data of the line,
+    pub room : least + length (data_of r) ≤ length pairs
+    room = omega (arith, few r.opening.kind, counted, enough cut)
+
+    pub data_count : length (part (length (data_of r))) ≡ length (data_of r)
+    data_count = length-take (least + length (data_of r) - least) (drop least pairs) ∙ rw (length-drop least pairs) (omega (arith, room))
+
+    -- and they make these.
+    pub data_made : Make (part (length (data_of r))) (data_of r) 0
+    data_made = go r.opening.kind
+      where
+        nothing : (i : ℕ) → i < length (part 0) → ⊥
+        nothing i inside = omega (arith, length-take (least + 0 - least) (drop least pairs))
+
+        go :
+            (kind : Kind) (i : ℕ) → i < length (part (length (data_for kind (carried r)))) →
+            value EitherCase (get_or (part (length (data_for kind (carried r)))) i []) ≡ Some (get_or (data_for kind (carried r)) (0 + i) 0)
+        go Header i inside = absurd (nothing i inside)
+        go Data i inside =
+            let n = get_or r.bytes 0 0 - least in
+            let l = length (carried r) in
+            let few-data = few Data in
+            let many : i < l = omega (arith, length-take (least + l - least) (drop least pairs)) in
+            let first : 0 + i ≡ i = omega arith in
+            rw (first, get_or-take n (drop least r.bytes) i 0 (omega arith), get_or-drop least r.bytes i 0)
+            (part_makes pairs r.bytes (length r.bytes) (line_pairs cut) least (least + l) (omega (arith, counted)) i inside)
+        go Count i inside = absurd (nothing i inside)
+        go Closing i inside = absurd (nothing i inside)
 
   -- The opening and the count can be read from the line itself.
-  pub opening_seen : opening_of line ≡ some r.opening
+  pub opening_seen : opening_of line ≡ Some r.opening
   unfolding opening_of
   opening_seen = rw (take-take 2 read.0 line (omega (arith, digits_end))) at read.4
 
-  pub count_seen : (b : ℕ) → ByteAt (drop 2 line) 0 b → b ≡ get_or r.bytes 0 0
-  count_seen b here = here (get_or r.bytes 0 0) (line_pairs 0 (omega (arith, counted)))
+  pub opening_same : {o : Opening} → Some o ≡ opening_of line → o ≡ r.opening
+  opening_same found = let e = found ∙ opening_seen in cc
 
-  module _ (count : ℕ) (seen : count ≡ get_or r.bytes 0 0) where
-    pub long_enough : 4 + 2 * count ≤ length line
-    long_enough = omega (arith, digits_end, counted, read.1)
+  module _ {pairs : List (List ℕ)} (cut : Cut (drop 2 line) pairs) where
+    pub some_pair : None ≡ slice_get pairs 0 → ⊥
+    some_pair first = omega (arith, no_pair pairs first, counted, enough cut)
 
-    pub count_enough : r.opening.width + 1 ≤ count
-    count_enough = omega (arith, counted)
+    pub count_seen : {p : List ℕ} (b : ℕ) → Some p ≡ slice_get pairs 0 → ByteOf p b → b ≡ get_or r.bytes 0 0
+    count_seen b first here =
+        here (get_or r.bytes 0 0) (rw (← (first_pair pairs first).1) (line_pairs cut 0 (omega (arith, counted))))
 
-    pub digits_read : bytes_of (take (4 + 2 * count - 2) (drop 2 line)) ≡ some r.bytes
-    digits_read =
-        let m = 4 + 2 * count - 2 in
-        let e : 2 + m ≡ read.0 = omega (arith, digits_end, counted) in
-        let two : length (take 2 line) ≡ 2 = length-take-le 2 line room.0 in
-        rw (← drop_at (take 2 line) (take m (drop 2 line)) 2 two, ← take-add 2 m line, e) read.2
+    module _ (count : ℕ) (seen : count ≡ get_or r.bytes 0 0) where
+      pub count_enough : r.opening.width + 1 ≤ count
+      count_enough = omega (arith, counted)
 
-    pub data_length : length_for r.opening.kind (count - (r.opening.width + 1)) ≡ length (data_of r)
-    data_length =
-        let least = r.opening.width + 1 in
-        let all : length (carried r) ≡ count - least =
-        rw (← seen) (length-take-le (count - least) (drop least r.bytes) (rw (length-drop least r.bytes) (omega (arith, counted)))) in
-        rw (← all) (length_for_data r.opening.kind (carried r))
+      pub pairs_enough : r.opening.width + 1 ≤ length pairs
+      pairs_enough = omega (arith, counted, enough cut)
+
+      pub address_read : {n : ℕ} → NumberOf (take (r.opening.width + 1 - 1) (drop 1 pairs)) n → n ≡ address r
+      address_read {n} number =
+          let long : length (take (r.opening.width + 1 - 1) (drop 1 pairs)) ≡ r.opening.width =
+          number_length pairs r.opening.width (omega (arith, pairs_enough)) in
+          rw long at
+          (number r.bytes 1 (part_makes pairs r.bytes (length r.bytes) (line_pairs cut) 1 (r.opening.width + 1) (omega (arith, counted))))
+
+      pub data_length : length_for r.opening.kind (count - (r.opening.width + 1)) ≡ length (data_of r)
+      data_length =
+          let least = r.opening.width + 1 in
+          let all : length (carried r) ≡ count - least =
+          rw (← seen) (length-take-le (count - least) (drop least r.bytes) (rw (length-drop least r.bytes) (omega (arith, counted)))) in
+          rw (← all) (length_for_data r.opening.kind (carried r))

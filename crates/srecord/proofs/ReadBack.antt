@@ -1,7 +1,6 @@
 -- A line that `export` writes is read back: it is cut off at its line feed, and its record has the bytes that were written.
 -- Assumes nothing.
-use Rattle.std.proofs.Common.{◌≡◌, ℕ, zero, suc, ◌+◌, ◌-◌, ◌/◌, ◌%◌, ◌^◌, ◌<◌, ◌≤◌, Bool, true, false, cond, eqb, ltb, List, [], ◌∷◌, ◌++◌, map, length, get_or, take, drop, sym, refl, ap, ◌∙◌, append_assoc, append-nil, mod-eq_of_lt, arith, lit<, lit≤, length-append, get_or-drop, eq-eqb, ne_eqb, le-leb}
-use mathlib.Core.Option.{some}
+use Rattle.std.proofs.Common.{◌≡◌, ℕ, zero, suc, ◌+◌, ◌-◌, ◌/◌, ◌%◌, ◌^◌, ◌<◌, ◌≤◌, Bool, true, false, cond, eqb, ltb, List, [], ◌∷◌, ◌++◌, map, length, get_or, take, drop, sym, refl, ap, ◌∙◌, append_assoc, append-nil, mod-eq_of_lt, arith, lit<, lit≤, length-append, get_or-drop, eq-eqb, ne_eqb, le-leb, Some}
 use lib.Seq.{append_snoc, get_or-append_seam, take-append_seam}
 use Rattle.memory.proofs.Bytes.{Bytes}
 use Rattle.memory.specs.Access.{value_at}
@@ -10,13 +9,13 @@ use Rattle.text.specs.Reading.{value}
 use Rattle.text.specs.Text.{ascii, digit, hex_in, line_feed}
 use Rattle.text.specs.declared.digits.Case.TheVariants.{Upper}
 use Rattle.text.specs.declared.reading.Letters.TheVariants.{EitherCase}
-use Rattle.text.specs.declared.reading.Read.TheVariants.{Number}
 use Rattle.srecord.specs.declared.openings.Kind.TheVariants.{Data, Closing}
 use Rattle.srecord.specs.Export.{bytes_in, check_byte, counted, line_of, pairs}
 use Rattle.srecord.specs.Lines.{content, cut}
 use Rattle.srecord.specs.Load.{records, sum}
 use Rattle.srecord.specs.Promises.{with_bytes}
-use Rattle.srecord.specs.Records.{Opening, Record, address, among, bytes_of, data_of, opening_of, openings, record_of}
+use Rattle.srecord.specs.declared.openings.Opening.{Opening}
+use Rattle.srecord.specs.Records.{Record, address, among, bytes_of, data_of, opening_of, openings, record_of}
 use Rattle.srecord.proofs.WrittenPairs.{sum_append}
 
 -- A text in which a byte does not stand.
@@ -57,19 +56,19 @@ cut_at begun (byte ∷ x) rest (e, h) =
     rw e (cut_at (begun ++ (byte ∷ [])) x rest h ∙ ap (λ (line : List ℕ). line ∷ cut [] rest) (append_snoc begun byte (x ++ (10 ∷ []))))
 
 -- What stands before the line feed.
-content_of : (x : List ℕ) → Without 13 x → content (x ++ (10 ∷ [])) ≡ some x
+content_of : (x : List ℕ) → Without 13 x → content (x ++ (10 ∷ [])) ≡ Some x
 unfolding content
 content_of x h =
     let last : length (x ++ (10 ∷ [])) - 1 ≡ length x = rw (length-append x (10 ∷ [])) (omega arith) in
     rw (last, get_or-append_seam x 10 [] 0, take-append_seam x (10 ∷ []), without_at 13 x (length x - 1) refl h)
 
 -- The bytes that the digits of bytes make.
-pub bytes_back : (bytes : List ℕ) → Bytes bytes → bytes_of (pairs bytes) ≡ some bytes
+pub bytes_back : (bytes : List ℕ) → Bytes bytes → bytes_of (pairs bytes) ≡ Some bytes
 unfolding bytes_of pairs hex_in
 bytes_back [] small = refl
 bytes_back (byte ∷ bytes) small =
-    let this : value EitherCase (hex_in Upper 2 byte) ≡ Number byte =
-    read_back EitherCase Upper refl 2 byte ∙ ap Number (mod-eq_of_lt (small 0)) in
+    let this : value EitherCase (hex_in Upper 2 byte) ≡ Some byte =
+    read_back EitherCase Upper refl 2 byte ∙ ap Some (mod-eq_of_lt (small 0)) in
     rw (this, bytes_back bytes (λ i. small (suc i)))
 
 -- Count, address, data and check byte of a line.
@@ -123,8 +122,8 @@ closing_opening = record { start = ascii "S7"; kind = Closing; width = 4 }
 
 -- A line that begins so, with the digits of these bytes.
 back :
-    (s t : ℕ) (o : Opening) (bytes : List ℕ) → eqb s 13 ≡ false → eqb t 13 ≡ false → among openings (s ∷ t ∷ []) ≡ some o → Bytes bytes →
-    record_of ((s ∷ t ∷ []) ++ pairs bytes ++ line_feed) ≡ with_bytes o (some bytes)
+    (s t : ℕ) (o : Opening) (bytes : List ℕ) → eqb s 13 ≡ false → eqb t 13 ≡ false → among openings (s ∷ t ∷ []) ≡ Some o → Bytes bytes →
+    record_of ((s ∷ t ∷ []) ++ pairs bytes ++ line_feed) ≡ with_bytes o (Some bytes)
 unfolding record_of opening_of
 back s t o bytes es et found small =
     rw (content_of (s ∷ t ∷ pairs bytes) (es, (et, without_pairs 13 bytes (lit< tt))), found, bytes_back bytes small)
@@ -135,14 +134,14 @@ long a bytes = let all = counted a bytes in length-append all (check_byte all �
 -- The records of the two kinds of lines.
 data_back :
     (a : ℕ) (bytes : List ℕ) → Bytes bytes → length bytes ≤ 16 →
-    record_of (line_of (ascii "S3") a bytes) ≡ some (record_with data_opening a bytes)
+    record_of (line_of (ascii "S3") a bytes) ≡ Some (record_with data_opening a bytes)
 unfolding line_of
 data_back a bytes small short =
     let least : 5 ≤ 4 + length bytes + 1 = omega arith in
     back 83 51 data_opening (line_bytes a bytes) refl refl refl (bytes_of_line a bytes small short)
     ∙ rw (eq-eqb _ _ (long a bytes), le-leb _ _ least)
 
-closing_back : record_of (line_of (ascii "S7") 0 []) ≡ some (record_with closing_opening 0 [])
+closing_back : record_of (line_of (ascii "S7") 0 []) ≡ Some (record_with closing_opening 0 [])
 unfolding line_of
 closing_back = back 83 55 closing_opening (line_bytes 0 []) refl refl refl (bytes_of_line 0 [] bytes_none (lit≤ tt))
 
@@ -158,10 +157,10 @@ line_cut s t a bytes rest es et =
 
 pub data_line :
     (a : ℕ) (bytes rest : List ℕ) → Bytes bytes → length bytes ≤ 16 →
-    records (line_of (ascii "S3") a bytes ++ rest) ≡ some (record_with data_opening a bytes) ∷ records rest
+    records (line_of (ascii "S3") a bytes ++ rest) ≡ Some (record_with data_opening a bytes) ∷ records rest
 data_line a bytes rest small short = line_cut 83 51 a bytes rest refl refl ∙ ap (λ r. r ∷ records rest) (data_back a bytes small short)
 
-pub closing_line : records (line_of (ascii "S7") 0 []) ≡ some (record_with closing_opening 0 []) ∷ []
+pub closing_line : records (line_of (ascii "S7") 0 []) ≡ Some (record_with closing_opening 0 []) ∷ []
 unfolding cut
 closing_line =
     ap records (sym (append-nil (line_of (ascii "S7") 0 []))) ∙ line_cut 83 55 0 [] [] refl refl ∙ ap (λ r. r ∷ []) closing_back

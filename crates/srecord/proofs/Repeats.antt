@@ -1,22 +1,22 @@
 -- What marks tell of the lines passed so far, and the first line that writes an address again.
 -- Assumes nothing.
-use Rattle.std.proofs.Common.{◌≡◌, ℕ, ◌+◌, ◌-◌, ◌/◌, ◌%◌, ◌^◌, ◌<◌, ◌≤◌, Bool, true, false, eqb, ltb, List, ◌∷◌, map, length, get_or, take, drop, replicate, sym, refl, ap, ◌∙◌, not-suc-le-zero, add-zero, lt_irrefl, arith, length-drop, drop_of_length-le, get_or-drop, drop-drop, ltb-false, ltb-true, eqb-true}
+use Rattle.std.proofs.Common.{◌≡◌, ℕ, zero, suc, ◌+◌, ◌-◌, ◌/◌, ◌%◌, ◌^◌, ◌<◌, ◌≤◌, Bool, true, false, eqb, ltb, List, ◌∷◌, map, length, get_or, drop, replicate, sym, refl, ap, ◌∙◌, not-suc-le-zero, add-zero, lt_irrefl, arith, length-drop, get_or-drop, drop-drop, ltb-false, ltb-true, eqb-true, Option, None, Some}
 use mathlib.Core.Bool.{or-true, false≢true}
-use mathlib.Core.Option.{Option, none, some}
 use native.Mathlib.Nat.{zero-div}
 use lib.ListN.{get_or-replicate, get_or-eq_default}
 use borrow.Author.Tests.{eqb-false}
-use Rattle.srecord.specs.declared.records.Parsed.{Parsed}
-use Rattle.srecord.specs.Lines.{cut, lines}
+use Rattle.srecord.specs.declared.records.Summary.{Summary}
+use Rattle.srecord.specs.Lines.{lines}
 use Rattle.srecord.specs.Load.{records, writes}
 use Rattle.srecord.specs.Records.{Record, record_of}
-use Rattle.srecord.specs.Promises.{Again, AllRead, FirstAgain, LineAt, Marks, Once, Spans, marked, writes_by}
+use Rattle.srecord.specs.Promises.{Again, AllRead, Finds, Marks, Once, Spans, marked, writes_by}
+use Rattle.srecord.proofs.Cutting.{no_line}
 
 -- One of the first n lines writes an address.
 pub record Written (lines : List (Option Record)) (n a : ℕ) : Type 0 where
   pub line : ℕ
   pub before : line < n
-  pub wrote : writes (get_or lines line none) a ≡ true
+  pub wrote : writes (get_or lines line None) a ≡ true
 
 -- The lines passed write no address of the window twice, and the marks are on those that they write.
 pub record Passed (lines : List (Option Record)) (low n : ℕ) (marks : List ℕ) : Type 0 where
@@ -40,13 +40,13 @@ module _ (lines : List (Option Record)) where
 
   module _ {low n : ℕ} {before after : List ℕ} (p : Passed lines low n before) where
     -- A line that writes one which is marked.
-    pub marked_again : Marks before (λ i. writes (get_or lines n none) (low + i)) true after → Again lines n
+    pub marked_again : Marks before (λ i. writes (get_or lines n None) (low + i)) true after → Again lines n
     marked_again m =
         let t = m.taken refl in
         let w = p.only t.0 t.1 t.3 in
         record { earlier = w.line; address = low + t.0; before = w.before; first = w.wrote; second = t.2 }
 
-    module _ (m : Marks before (λ i. writes (get_or lines n none) (low + i)) false after) where
+    module _ (m : Marks before (λ i. writes (get_or lines n None) (low + i)) false after) where
       all : (i : ℕ) → i < 229376 → Written lines (n + 1) (low + i) → marked after i ≡ true
       all i below w = go (eqb w.line n) refl
         where
@@ -67,8 +67,8 @@ module _ (lines : List (Option Record)) where
           go false e = record { line = n; before = omega arith; wrote = rw e at (sym (m.now refl i below) ∙ full) }
 
       never :
-          (i k : ℕ) → i < n → k < 229376 → writes (get_or lines i none) (low + k) ≡ true →
-          writes (get_or lines n none) (low + k) ≡ true → ⊥
+          (i k : ℕ) → i < n → k < 229376 → writes (get_or lines i None) (low + k) ≡ true →
+          writes (get_or lines n None) (low + k) ≡ true → ⊥
       never i k earlier below first second =
           let full = p.all k below (record { line = i; before = earlier; wrote = first }) in
           false≢true (sym (m.free refl k below second) ∙ full)
@@ -87,54 +87,55 @@ module _ (lines : List (Option Record)) where
       pub one_passed : Passed lines low (n + 1) after
       one_passed = record { once = once; all = all; only = only }
 
--- n lines are passed, and the next one begins at `at`.
-abbrev pub Reached : List ℕ → ℕ → ℕ → Type 0
-Reached text at n = drop n (records text) ≡ map record_of (lines (drop at text))
+-- n lines are passed, and the others are those of `rest`.
+abbrev pub Reached : List ℕ → List ℕ → ℕ → Type 0
+Reached text rest n = drop n (records text) ≡ records rest
 
-module _ (text : List ℕ) (at next n : ℕ) (line : LineAt text at next) (reached : Reached text at n) where
-  here : drop n (records text) ≡ record_of (take (next - at) (drop at text)) ∷ map record_of (lines (drop next text))
-  here = reached ∙ ap (map record_of) line.cuts
+module _ (text rest x more : List ℕ) (n : ℕ) (cuts : lines rest ≡ x ∷ lines more) (reached : Reached text rest n) where
+  here : drop n (records text) ≡ record_of x ∷ records more
+  here = reached ∙ ap (map record_of) cuts
 
   -- The line at hand is line n,
-  pub line_at : get_or (records text) n none ≡ record_of (take (next - at) (drop at text))
-  line_at = rw (← add-zero n, ← get_or-drop n (records text) 0 none, here)
+  pub line_at : get_or (records text) n None ≡ record_of x
+  line_at = rw (← add-zero n, ← get_or-drop n (records text) 0 None, here)
 
   -- which writes what the code has it write;
   pub writes_at :
-      {limit : ℕ} → AllRead (records text) limit → n < limit → (p : Parsed) → Spans (take (next - at) (drop at text)) p → (a : ℕ) →
-      writes (get_or (records text) n none) a ≡ writes_by p a
-  writes_at all less p spans a = go (record_of (take (next - at) (drop at text))) refl
+      {limit : ℕ} → AllRead (records text) limit → n < limit → (p : Option Summary) → Spans x p → (a : ℕ) →
+      writes (get_or (records text) n None) a ≡ writes_by p a
+  writes_at all less p spans a = go (record_of x) refl
     where
-      go :
-          (o : Option Record) → record_of (take (next - at) (drop at text)) ≡ o → writes (get_or (records text) n none) a ≡ writes_by p a
-      go none e = absurd (all n less (line_at ∙ e))
-      go (some r) e = rw (line_at, e) (spans r e a)
+      go : (o : Option Record) → record_of x ≡ o → writes (get_or (records text) n None) a ≡ writes_by p a
+      go None e = absurd (all n less (line_at ∙ e))
+      go (Some r) e = rw (line_at, e) (spans r e a)
 
-  -- and the next lines begin behind it.
-  pub lines_behind : Reached text next (n + 1)
+  -- and the next lines stand behind it.
+  pub lines_behind : Reached text more (n + 1)
   lines_behind = sym (drop-drop 1 n (records text)) ∙ rw here
 
 -- At the text's end all lines are passed: no line that is not there writes anything.
-pub lines_end : (text : List ℕ) (at n : ℕ) → length text ≤ at → Reached text at n → length (records text) ≤ n
-unfolding cut
-lines_end text at n over reached =
-    let none_left : length (drop n (records text)) ≡ 0 = rw (reached, drop_of_length-le text over) in
+pub lines_end : (text rest : List ℕ) (n : ℕ) → length rest ≡ 0 → Reached text rest n → length (records text) ≤ n
+lines_end text rest n empty reached =
+    let none_left : length (drop n (records text)) ≡ 0 = rw (reached, no_line rest empty) in
     omega (arith, length-drop n (records text))
 
 module _ (lines : List (Option Record)) {low n limit : ℕ} {marks : List ℕ} (p : Passed lines low n marks) where
   -- The limit is reached.
-  pub all_passed : n ≡ limit → FirstAgain lines limit low (low + 229376) limit
+  all_passed : n ≡ limit → Finds lines limit low (low + 229376) None
   all_passed reached =
-      record { within = omega arith; once = rw (← reached) p.once; again = λ less. absurd (lt_irrefl _ less) }
+      record {
+        first = record { within = omega arith; once = rw (← reached) p.once; again = λ less. absurd (lt_irrefl _ less) };
+        below = tt;
+      }
 
   -- The line at hand is the first.
-  pub first_here : n < limit → Again lines n → FirstAgain lines limit low (low + 229376) n
-  first_here less again = record { within = omega arith; once = p.once; again = λ _. again }
+  pub first_here : n < limit → Again lines n → Finds lines limit low (low + 229376) (Some n)
+  first_here less again = record { first = record { within = omega arith; once = p.once; again = λ _. again }; below = less }
 
   -- There is no line more.
-  pub none_left : length lines ≤ n → FirstAgain lines limit low (low + 229376) limit
+  none_left : length lines ≤ n → Finds lines limit low (low + 229376) None
   none_left over =
-      record { within = omega arith; once = once; again = λ less. absurd (lt_irrefl _ less) }
+      record { first = record { within = omega arith; once = once; again = λ less. absurd (lt_irrefl _ less) }; below = tt }
     where
       once : Once lines limit low (low + 229376)
       once i j a less last from to first second = go (ltb j n) refl
@@ -143,40 +144,9 @@ module _ (lines : List (Option Record)) {low n limit : ℕ} {marks : List ℕ} (
           go true e = p.once i j a less (ltb-true j n e) from to first second
           go false e =
               let beyond : length lines ≤ j = omega (arith, ltb-false j n e) in
-              false≢true (rw (get_or-eq_default lines none beyond) at second)
+              false≢true (rw (get_or-eq_default lines None beyond) at second)
 
-module _ (lines : List (Option Record)) where
-  -- No address, no line that writes one again.
-  pub first_nowhere : (limit low : ℕ) → FirstAgain lines limit low low limit
-  first_nowhere limit low =
-      record { within = omega arith; once = λ i j a less below from to. omega arith; again = λ less. absurd (lt_irrefl _ less) }
-
-  -- The first in a part of the memory.
-  pub first_in_part :
-      {limit low high top first : ℕ} → FirstAgain lines limit low top first → high ≤ top → FirstAgain lines limit low high first
-  first_in_part f fewer =
-      record {
-        within = f.within;
-        once = λ i j a less below from to. f.once i j a less below from (omega arith);
-        again = f.again;
-      }
-
-  -- The first in one part, and among the lines before it the first in the next part.
-  pub first_in_both :
-      {limit low middle high first second : ℕ} → FirstAgain lines limit low middle first → FirstAgain lines first middle high second →
-      FirstAgain lines limit low high second
-  first_in_both {limit} {low} {middle} {high} {first} {second} f g =
-      record { within = omega (arith, f.within, g.within); once = once; again = again (ltb second first) refl }
-    where
-      once : Once lines second low high
-      once i j a less below from to = go (ltb a middle) refl
-        where
-          go : (lower : Bool) → ltb a middle ≡ lower → writes (get_or lines i none) a ≡ true → writes (get_or lines j none) a ≡ true → ⊥
-          go true e = f.once i j a less (omega (arith, g.within)) from (ltb-true a middle e)
-          go false e = g.once i j a less below (ltb-false a middle e) to
-
-      again : (earlier : Bool) → ltb second first ≡ earlier → second < limit → Again lines second
-      again true e less = g.again (ltb-true second first e)
-      again false e less =
-          let same : first ≡ second = omega (arith, ltb-false second first e, g.within) in
-          rw same at (f.again (rw same less))
+  -- No line is left to look at, of the limit or of all.
+  pub ends_here : (left : ℕ) → n + left ≡ limit → (0 < left → length lines ≤ n) → Finds lines limit low (low + 229376) None
+  ends_here zero e all = all_passed (omega arith)
+  ends_here (suc left) e all = none_left (all (omega arith))

@@ -1,25 +1,23 @@
 -- What `export` writes, `load` takes back: into every memory of the same length, to the same bytes. (`Bytes`: each is below 256, as in
 -- every lent memory.)
 -- Assumes nothing.
-use Rattle.std.proofs.Common.{◌≡◌, ℕ, zero, suc, ◌+◌, ◌/◌, ◌%◌, ◌^◌, ◌<◌, ◌≤◌, min, max, Bool, true, false, cond, ◌&&◌, eqb, ltb, List, [], ◌∷◌, ◌++◌, length, take, drop, sym, refl, ap, ◌∙◌, subst, append_assoc, le_trans, arith, length-append, length-drop, take-append-drop, length-take, le-ltb, eq-eqb}
-use mathlib.Core.Option.{Option, some}
+use Rattle.std.proofs.Common.{◌≡◌, ℕ, zero, suc, ◌+◌, ◌/◌, ◌%◌, ◌^◌, ◌<◌, ◌≤◌, min, max, Bool, true, false, cond, ◌&&◌, eqb, ltb, List, [], ◌∷◌, ◌++◌, length, take, drop, sym, refl, ap, ◌∙◌, subst, append_assoc, le_trans, arith, length-append, length-drop, take-append-drop, length-take, le-ltb, eq-eqb, Option, Some, Result, Ok}
+use Rattle.std.specs.Bool.{⊤}
 use lib.Seq.{drop-append-add, sets, sets-eq, take-append_seam}
 use Rattle.memory.proofs.Acceptance.{accepted_size}
 use Rattle.memory.proofs.Bytes.{Bytes}
 use Rattle.memory.specs.Access.{value_at}
 use Rattle.memory.specs.Lengths.{first, refused_length}
 use Rattle.text.specs.Text.{ascii}
-use Rattle.srecord.specs.declared.Exported.{Exported}
-use Rattle.srecord.specs.declared.Loaded.{Loaded}
-use Rattle.srecord.specs.declared.Refusal.TheVariants.{Accepted}
+use Rattle.srecord.specs.declared.Refused.{Refused}
 use Rattle.srecord.specs.Export.{Exports, s3_lines, exported, line_of, refused_export}
 use Rattle.srecord.specs.Load.{Loads, Verdict, closed, end_of, judged, kind_of, memory_after, placed, record_tests, records}
-use Rattle.srecord.specs.Load.{refusal_number, sum, verdict, verdict_on, written_twice}
+use Rattle.srecord.specs.Load.{sum, verdict, verdict_on, written_twice}
 use Rattle.srecord.specs.Records.{Record, address, data_of, is_count}
 use Rattle.srecord.proofs.Exports.{length_accepted}
 use Rattle.srecord.proofs.ReadBack.{address_back, bytes_drop, bytes_take, closing_line, closing_opening}
 use Rattle.srecord.proofs.ReadBack.{data_kept, data_line, data_opening, record_with, sum_back}
-use Rattle.srecord.proofs.Refusals.{refusal_determined}
+use Rattle.srecord.proofs.Refusals.{told_determined}
 
 -- The records end at or before an address.
 abbrev Below : ℕ → List Record → Type 0
@@ -60,7 +58,7 @@ passes size earlier r unclosed check inside once other =
 
 goes_on :
     (size n : ℕ) (earlier : List Record) (r : Record) (rest : List (Option Record)) → first (record_tests size earlier r) ≡ 0 →
-    judged size n earlier (some r ∷ rest) ≡ judged size (n + 1) (r ∷ earlier) rest
+    judged size n earlier (Some r ∷ rest) ≡ judged size (n + 1) (r ∷ earlier) rest
 unfolding judged
 goes_on size n earlier r rest e = rw e
 
@@ -93,7 +91,7 @@ module _ (a : ℕ) (m : List ℕ) where
   first_line :
       (k : ℕ) → Bytes m →
       records (line_of (ascii "S3") a piece ++ s3_lines k (a + 16) left ++ ending) ≡
-      some line ∷ records (s3_lines k (a + 16) left ++ ending)
+      Some line ∷ records (s3_lines k (a + 16) left ++ ending)
   first_line k bytes =
       ap records (append_assoc (line_of (ascii "S3") a piece) (s3_lines k (a + 16) left) ending)
       ∙ data_line a piece (s3_lines k (a + 16) left ++ ending) (bytes_take 16 m bytes) piece_short
@@ -122,7 +120,7 @@ lines_pass size n (suc k) a earlier m long bytes inside unclosed below e =
     ap (judged size n earlier) (first_line a m k bytes)
     ∙ goes_on size n earlier r _ (passes size earlier r unclosed (sum_back a (piece a m)) within (behind_once r earlier apart) refl)
     ∙ lines_pass size (n + 1) k (a + 16) (r ∷ earlier) (left a m) long (bytes_drop 16 m bytes)
-    (λ (some : 0 < length (left a m)). omega (arith, length-drop 16 m, fits))
+    (λ (more : 0 < length (left a m)). omega (arith, length-drop 16 m, fits))
     unclosed (end, below_more a (a + 16) earlier (omega arith) below) (fewer a m e)
 
 overwritten : (p q d : List ℕ) {a : ℕ} → length p ≡ a → length d ≤ length q → sets (p ++ q) a d ≡ p ++ d ++ drop (length d) q
@@ -153,7 +151,7 @@ lines_placed size (suc k) a m p q long bytes inside e n =
     ap (placed (p ++ q)) (first_line a m k bytes)
     ∙ ap (λ (l : List ℕ). placed l (records (s3_lines k (a + 16) rest ++ ending))) over
     ∙ lines_placed size k (a + 16) rest (p ++ d) (drop (length d) q) long (bytes_drop 16 m bytes)
-    (λ (some : 0 < length rest). (
+    (λ (more : 0 < length rest). (
       rw (length-append p d) (omega (arith, now.0, held, length-drop 16 m)),
       omega (arith, now.1, length-drop 16 m),
     ))
@@ -179,27 +177,22 @@ round_trip m other bytes accepted same =
     passed : verdict_on (exported m) (length other) ≡ verdict 0 0
     passed =
         ap (λ (k : ℕ). cond (eqb k 0) (judged (length other) 1 [] (records (exported m))) (verdict k 0)) (ap refused_length same ∙ accepted)
-        ∙ lines_pass (length other) 1 n 0 [] m size bytes (λ some. fits) refl tt refl
+        ∙ lines_pass (length other) 1 n 0 [] m size bytes (λ more. fits) refl tt refl
 
     taken : placed other (records (exported m)) ≡ m
-    taken = lines_placed (length other) n 0 m [] other size bytes (λ some. (refl, fits)) same refl
+    taken = lines_placed (length other) n 0 m [] other size bytes (λ more. (refl, fits)) same refl
 
 -- In the words of the two promises: what an export has written, a load takes, and leaves the exported memory.
 pub loads_back :
-    (m buffer other : List ℕ) (e : Exported) (l : Loaded) (written after : List ℕ) → Bytes m → length other ≡ length m →
-    Exports m buffer e written → e.refusal ≡ Accepted → Loads (take e.length written) other l after →
-    (l ≡ record { refusal = Accepted; line = 0 }) × (after ≡ m)
-loads_back m buffer other e l written after bytes same exports accepted loads =
+    (m buffer other : List ℕ) (n : ℕ) (l : Result ⊤ Refused) (written after : List ℕ) → Bytes m → length other ≡ length m →
+    Exports m buffer (Ok n) written → Loads (take n written) other l after → (l ≡ Ok tt) × (after ≡ m)
+loads_back m buffer other n l written after bytes same exports loads =
     let text = exported m in
-    let none : refused_export m buffer ≡ 0 = sym exports.refuses ∙ ap refusal_number accepted in
-    let yes : eqb (refused_export m buffer) 0 ≡ true = eq-eqb _ _ none in
-    let long : e.length ≡ length text = exports.counts ∙ ap (λ (t : Bool). cond t (length text) 0) yes in
+    let none_given : refused_export m buffer ≡ 0 = sym exports.refuses in
+    let yes : eqb (refused_export m buffer) 0 ≡ true = eq-eqb _ _ none_given in
     let all : written ≡ text ++ drop (length text) buffer =
     exports.leaves ∙ ap (λ (t : Bool). cond t (text ++ drop (length text) buffer) buffer) yes in
-    let same_text : take e.length written ≡ text = rw (long, all) (take-append_seam text (drop (length text) buffer)) in
+    let same_text : take n written ≡ text = rw (exports.counts, all) (take-append_seam text (drop (length text) buffer)) in
     let back : Loads text other l after = subst (λ (t : List ℕ). Loads t other l after) same_text loads in
-    let trip = round_trip m other bytes (length_accepted m buffer none) same in
-    let told = back.answers ∙ trip.0 in
-    let why : l.refusal ≡ Accepted = refusal_determined l.refusal Accepted (ap (λ (v : Verdict). v.number) told) in
-    let where-told : l.line ≡ 0 = ap (λ (v : Verdict). v.line) told in
-    (λ i. record { refusal = why i; line = where-told i }, back.leaves ∙ trip.1)
+    let trip = round_trip m other bytes (length_accepted m buffer none_given) same in
+    (told_determined l (Ok tt) (back.answers ∙ trip.0), back.leaves ∙ trip.1)

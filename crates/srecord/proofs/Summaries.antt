@@ -1,25 +1,35 @@
 -- What the code keeps of a record, from the bytes of its digits.
 -- Assumes nothing.
-use Rattle.std.proofs.Common.{◌≡◌, ℕ, ◌+◌, ◌-◌, ◌/◌, ◌%◌, ◌<◌, ◌≤◌, true, false, eqb, List, length, get_or, drop, sym, refl, ap, ◌∙◌, arith, length-drop, length-take-le, eq-eqb, ne_eqb, eqb-true, leb-true}
-use mathlib.Core.Option.{Option, none, some}
-use Rattle.srecord.specs.Records.{Opening, Record, bytes_of, carried, data_for, fits, may}
+use Rattle.std.proofs.Common.{◌≡◌, ℕ, ◌+◌, ◌-◌, ◌/◌, ◌%◌, ◌<◌, ◌≤◌, true, false, eqb, List, [], ◌∷◌, length, get_or, take, drop, sym, refl, ap, ◌∙◌, arith, length-drop, length-take, length-take-le, eq-eqb, ne_eqb, eqb-true, leb-true, Option, None, Some}
+use Rattle.std.specs.List.{slice_get}
+use Rattle.std.specs.Option.{option_map}
+use Rattle.std.specs.Simd.{first_chunks}
+use Rattle.memory.specs.Access.{value_at}
+use Rattle.text.specs.Reading.{value}
+use Rattle.text.specs.declared.reading.Letters.TheVariants.{EitherCase}
+use Rattle.srecord.specs.Records.{Record, bytes_of, carried, data_for, fits, may}
 use Rattle.srecord.specs.Load.{sum}
-use Rattle.srecord.specs.Promises.{ByteAt, NumberAt, length_for, parsed_of, total_of, with_bytes}
+use Rattle.srecord.specs.Promises.{ByteOf, NumberOf, length_for, summary, with_bytes}
 use Rattle.srecord.specs.declared.openings.Kind.{Kind}
 use Rattle.srecord.specs.declared.openings.Kind.TheVariants.{Header, Data, Count, Closing}
-use Rattle.srecord.specs.declared.records.Parsed.TheVariants as parsed
-use Rattle.srecord.specs.declared.records.Total.TheVariants as total
-use Rattle.srecord.proofs.Pairs.{pair_of, twice_as_long}
+use Rattle.srecord.specs.declared.openings.Opening.{Opening}
+use Rattle.srecord.proofs.Pairs.{never, pairs_make, part_makes, twice_as_long}
+
+-- A first pair, or none.
+pub first_pair : (pairs : List (List ℕ)) {p : List ℕ} → Some p ≡ slice_get pairs 0 → (0 < length pairs) × (get_or pairs 0 [] ≡ p)
+first_pair [] e = absurd (never (sym e))
+first_pair (x ∷ rest) e = (omega arith, cc)
+
+pub no_pair : (pairs : List (List ℕ)) → None ≡ slice_get pairs 0 → length pairs ≡ 0
+no_pair [] e = refl
+no_pair (x ∷ rest) e = absurd (never e)
 
 -- What a sum tells of the digits.
 pub sum_known :
-    (x : Option (List ℕ)) {s : ℕ} → total.Sum s ≡ total_of x → (bytes : List ℕ) × (x ≡ some bytes) × (s ≡ sum bytes % 256)
-sum_known none e = let z : ◌≡◌ {A = ℕ} 0 1 = cc in absurd (omega arith)
-sum_known (some bytes) e = (bytes, refl, cc)
-
-pub not_digits : (x : Option (List ℕ)) → total.NotHex ≡ total_of x → x ≡ none
-not_digits none e = refl
-not_digits (some bytes) e = let z : ◌≡◌ {A = ℕ} 0 1 = cc in absurd (omega arith)
+    (x : Option (List ℕ)) {s : ℕ} → Some s ≡ option_map (λ bytes. sum bytes % 256) x →
+    (bytes : List ℕ) × (x ≡ Some bytes) × (s ≡ sum bytes % 256)
+sum_known None e = absurd (never (sym e))
+sum_known (Some bytes) e = (bytes, refl, cc)
 
 pub may_least : (kind : Kind) (least count : ℕ) → may kind least count ≡ true → least ≤ count
 may_least Header least count e = leb-true least count e
@@ -33,51 +43,68 @@ length_for_data Data bytes = refl
 length_for_data Count bytes = refl
 length_for_data Closing bytes = refl
 
-abbrev opens : List ℕ → Kind → ℕ → Opening
-opens start kind width = record { start = start; kind = kind; width = width }
+-- The pairs behind the first.
+pub number_length : (pairs : List (List ℕ)) (width : ℕ) → width < length pairs → length (take (width + 1 - 1) (drop 1 pairs)) ≡ width
+number_length pairs width less =
+    length-take (width + 1 - 1) (drop 1 pairs) ∙ rw (length-drop 1 pairs) (omega arith)
 
-module _ (digits bytes : List ℕ) (known : bytes_of digits ≡ some bytes) where
-  pub halves : length digits / 2 ≡ length bytes
-  halves = omega (arith, twice_as_long digits bytes known)
+-- The pairs of the digits, as the code cuts them.
+pub record Cut (digits : List ℕ) (pairs : List (List ℕ)) : Type 0 where
+  pub front : pairs ≡ first_chunks 2 (length digits / 2) digits
+  pub many : length pairs ≡ length digits / 2
 
-  pub first_byte : (b : ℕ) → (length digits / 2 ≡ 0 → ⊥) → ByteAt digits 0 b → b ≡ get_or bytes 0 0
-  first_byte b some-digits here =
-      let room : 0 < length bytes = omega (arith, halves, some-digits) in
-      here (get_or bytes 0 0) (pair_of digits bytes known 0 room)
+module _ {digits bytes : List ℕ} {pairs : List (List ℕ)} (cut : Cut digits pairs) (known : bytes_of digits ≡ Some bytes) where
+  as_many : length pairs ≡ length bytes
+  as_many = omega (arith, cut.many, twice_as_long digits bytes known)
 
-  module _ (start : List ℕ) (kind : Kind) (width : ℕ) where
-    unfit : fits (opens start kind width) bytes ≡ false → parsed.Malformed ≡ parsed_of (with_bytes (opens start kind width) (bytes_of digits))
+  make : (i : ℕ) → i < length bytes → value EitherCase (get_or pairs i []) ≡ Some (get_or bytes i 0)
+  make i inside = rw cut.front (pairs_make digits bytes known i inside)
+
+  pub first_byte : {p : List ℕ} (b : ℕ) → Some p ≡ slice_get pairs 0 → ByteOf p b → b ≡ get_or bytes 0 0
+  first_byte b first here =
+      let f = first_pair pairs first in
+      here (get_or bytes 0 0) (rw (← f.1) (make 0 (omega (arith, as_many, f.0))))
+
+  module _ (o : Opening) where
+    unfit : fits o bytes ≡ false → None ≡ option_map summary (with_bytes o (bytes_of digits))
     unfit e = rw (known, e)
 
-    pub no_bytes : length digits / 2 ≡ 0 → parsed.Malformed ≡ parsed_of (with_bytes (opens start kind width) (bytes_of digits))
-    no_bytes empty = unfit (rw (sym halves ∙ empty, ne_eqb 0 (get_or bytes 0 0 + 1) (λ e. omega arith)))
+    pub no_bytes : None ≡ slice_get pairs 0 → None ≡ option_map summary (with_bytes o (bytes_of digits))
+    no_bytes first =
+        let empty : length bytes ≡ 0 = sym as_many ∙ no_pair pairs first in
+        unfit (rw (empty, ne_eqb 0 (get_or bytes 0 0 + 1) (λ e. omega arith)))
 
     module _ (count : ℕ) (counted : count ≡ get_or bytes 0 0) where
-      pub wrong_count :
-          (length digits / 2 ≡ count + 1 → ⊥) → parsed.Malformed ≡ parsed_of (with_bytes (opens start kind width) (bytes_of digits))
+      pub wrong_count : (length pairs ≡ count + 1 → ⊥) → None ≡ option_map summary (with_bytes o (bytes_of digits))
       wrong_count other =
-          unfit (rw (ne_eqb (length bytes) (get_or bytes 0 0 + 1) (λ e. other (halves ∙ e ∙ ap (λ n. n + 1) (sym counted)))))
+          unfit (rw (ne_eqb (length bytes) (get_or bytes 0 0 + 1) (λ e. other (as_many ∙ e ∙ ap (λ n. n + 1) (sym counted)))))
 
-      module _ (right : length digits / 2 ≡ count + 1) where
+      module _ (right : length pairs ≡ count + 1) where
         equal : eqb (length bytes) (get_or bytes 0 0 + 1) ≡ true
-        equal = eq-eqb (length bytes) (get_or bytes 0 0 + 1) (sym halves ∙ right ∙ ap (λ n. n + 1) counted)
+        equal = eq-eqb (length bytes) (get_or bytes 0 0 + 1) (sym as_many ∙ right ∙ ap (λ n. n + 1) counted)
 
-        pub may_not :
-            may kind (width + 1) count ≡ false → parsed.Malformed ≡ parsed_of (with_bytes (opens start kind width) (bytes_of digits))
+        pub may_not : may o.kind (o.width + 1) count ≡ false → None ≡ option_map summary (with_bytes o (bytes_of digits))
         may_not e = unfit (rw (equal, sym counted, e))
 
         abbrev r : Record
-        r = record { opening = opens start kind width; bytes = bytes }
+        r = record { opening = o; bytes = bytes }
 
-        carried_length : width + 1 ≤ count → length (carried r) ≡ count - (width + 1)
+        carried_length : o.width + 1 ≤ count → length (carried r) ≡ count - (o.width + 1)
         carried_length least =
-            let all : length bytes ≡ count + 1 = sym halves ∙ right in
-            rw (sym counted) (length-take-le (count - (width + 1)) (drop (width + 1) bytes) (rw (length-drop (width + 1) bytes, all) (omega arith)))
+            let all : length bytes ≡ count + 1 = sym as_many ∙ right in
+            rw (sym counted)
+            (length-take-le (count - (o.width + 1)) (drop (o.width + 1) bytes) (rw (length-drop (o.width + 1) bytes, all) (omega arith)))
 
         pub is_record :
-            {n s : ℕ} → may kind (width + 1) count ≡ true → NumberAt digits 1 width n → s ≡ sum bytes % 256 →
-            parsed.Record (record { kind = kind; width = width; address = n; length = length_for kind (count - (width + 1)); checks = eqb s 255 }) ≡
-            parsed_of (with_bytes (opens start kind width) (bytes_of digits))
+            {n s : ℕ} → may o.kind (o.width + 1) count ≡ true → NumberOf (take (o.width + 1 - 1) (drop 1 pairs)) n →
+            s ≡ sum bytes % 256 →
+            Some (record { opening = o; address = n; length = length_for o.kind (count - (o.width + 1)); checks = eqb s 255 }) ≡
+            option_map summary (with_bytes o (bytes_of digits))
         is_record {n} {s} e number summed =
-            let fit : fits (opens start kind width) bytes ≡ true = rw (equal, sym counted, e) in
-            rw (known, fit, sym (length_for_data kind (carried r)), carried_length (may_least kind (width + 1) count e), sym (number.reads bytes known), sym summed)
+            let fit : fits o bytes ≡ true = rw (equal, sym counted, e) in
+            let least = may_least o.kind (o.width + 1) count e in
+            let inside : o.width + 1 ≤ length bytes = omega (arith, as_many, right, least) in
+            let long : length (take (o.width + 1 - 1) (drop 1 pairs)) ≡ o.width = number_length pairs o.width (omega (arith, right, least)) in
+            let address_read : n ≡ value_at o.width bytes 1 =
+            rw long at (number bytes 1 (part_makes pairs bytes (length bytes) make 1 (o.width + 1) inside)) in
+            rw (known, fit, sym (length_for_data o.kind (carried r)), carried_length least, sym summed, sym address_read)

@@ -1,58 +1,55 @@
 -- Laws of one sweep over the lines, line by line.
 -- Assumes nothing.
-use Rattle.std.proofs.Common.{◌≡◌, ℕ, ◌+◌, ◌-◌, ◌≤◌, Bool, true, false, cond, List, ◌∷◌, map, length, take, drop, refl, ap, arith, drop_of_length-le, eq-eqb, ne_eqb}
-use mathlib.Core.Option.{Option, none, some}
-use Rattle.memory.specs.Lengths.{first}
-use Rattle.srecord.specs.Lines.{cut}
+use Rattle.std.proofs.Common.{◌≡◌, ℕ, ◌+◌, ◌≤◌, Bool, true, false, cond, List, ◌∷◌, map, length, refl, sym, ap, arith, eq-eqb, ne_eqb, Option, None, Some, Ok}
+use Rattle.std.specs.Option.{option_map}
+use Rattle.srecord.specs.Lines.{lines}
 use Rattle.srecord.specs.Records.{Record, is_data, record_of}
-use Rattle.srecord.specs.Load.{records}
-use Rattle.srecord.specs.Promises.{LineAt, finding, noted, parsed_of, single_tests, summary, swept}
-use Rattle.srecord.specs.declared.records.Parsed.TheVariants as parsed
+use Rattle.srecord.specs.Load.{records, verdict}
+use Rattle.srecord.specs.Promises.{Behind, alone, finding, noted, summary, swept}
 use Rattle.srecord.specs.declared.records.Summary.{Summary}
 use Rattle.srecord.specs.declared.sweep.SoFar.{SoFar}
+use Rattle.srecord.proofs.Cutting.{no_line}
+use Rattle.srecord.proofs.Pairs.{never}
 
 -- What is known of a line that was read, or was not.
-pub is_known : (o : Option Record) {r : Summary} → parsed.Record r ≡ parsed_of o → (x : Record) × (o ≡ some x) × (summary x ≡ r)
-is_known none e = let z : ◌≡◌ {A = ℕ} 0 1 = cc in absurd (omega arith)
-is_known (some x) e = (x, refl, cc)
-
-pub is_none : (o : Option Record) → parsed.Malformed ≡ parsed_of o → o ≡ none
-is_none none e = refl
-is_none (some x) e = let z : ◌≡◌ {A = ℕ} 0 1 = cc in absurd (omega arith)
+pub is_known : (o : Option Record) {r : Summary} → Some r ≡ option_map summary o → (x : Record) × (o ≡ Some x) × (summary x ≡ r)
+is_known None e = absurd (never (sym e))
+is_known (Some x) e = (x, refl, cc)
 
 pub counts_on : (s : SoFar) (r : Summary) → (noted s r).count ≤ s.count + 1
 unfolding noted
-counts_on s r = go (is_data r.kind)
+counts_on s r = go (is_data r.opening.kind)
   where
     go : (t : Bool) → cond t (s.count + 1) s.count ≤ s.count + 1
     go true = omega arith
     go false = omega arith
 
-module _ (size n : ℕ) (s : SoFar) (text : List ℕ) (at : ℕ) where
-  pub nothing_left : length text ≤ at → swept size n s (records (drop at text)) ≡ finding (cond s.closed 0 15) 0 n s.ordered
-  unfolding swept cut
-  nothing_left over = rw (drop_of_length-le text over)
+-- What is told at the end.
+pub told_at_end :
+    (closed : Bool) (n : ℕ) (ordered : Bool) →
+    let v = cond closed (verdict 0 0) (verdict 15 0) in finding v.number v.line n ordered ≡ finding (cond closed 0 15) 0 n ordered
+told_at_end true n ordered = refl
+told_at_end false n ordered = refl
 
-  module _ (next : ℕ) (line : LineAt text at next) where
-    abbrev here : Option Record
-    here = record_of (take (next - at) (drop at text))
+module _ (size n : ℕ) (s : SoFar) (rest : List ℕ) where
+  pub nothing_left : length rest ≡ 0 → swept size n s (records rest) ≡ finding (cond s.closed 0 15) 0 n s.ordered
+  unfolding swept
+  nothing_left none_left = rw (no_line rest none_left)
 
-    begins : records (drop at text) ≡ here ∷ records (drop next text)
-    begins = ap (map record_of) line.cuts
+  module _ (x more : List ℕ) (cuts : lines rest ≡ x ∷ lines more) where
+    begins : records rest ≡ record_of x ∷ records more
+    begins = ap (map record_of) cuts
 
-    pub malformed : parsed.Malformed ≡ parsed_of here → swept size n s (records (drop at text)) ≡ finding 10 (n + 1) n s.ordered
+    pub refused :
+        {number : ℕ} → number ≡ alone size s (record_of x) → (number ≡ 0 → ⊥) →
+        swept size n s (records rest) ≡ finding number (n + 1) n s.ordered
     unfolding swept
-    malformed e = rw (begins, is_none here e)
+    refused {number} e given = rw begins (go (record_of x) e)
+      where
+        go : (o : Option Record) → number ≡ alone size s o → swept size n s (o ∷ records more) ≡ finding number (n + 1) n s.ordered
+        go None e = rw e
+        go (Some r) e = rw (← e, ne_eqb number 0 given)
 
-    module _ {r : Summary} (read : parsed.Record r ≡ parsed_of here) {number : ℕ} (told : number ≡ first (single_tests size s.closed s.count r)) where
-      pub refused : (number ≡ 0 → ⊥) → swept size n s (records (drop at text)) ≡ finding number (n + 1) n s.ordered
-      unfolding swept
-      refused Some-number =
-          let x = is_known here read in
-          rw (begins, x.1, x.2, ← told, ne_eqb number 0 Some-number)
-
-      pub passes : number ≡ 0 → swept size n s (records (drop at text)) ≡ swept size (n + 1) (noted s r) (records (drop next text))
-      unfolding swept
-      passes zero =
-          let x = is_known here read in
-          rw (begins, x.1, x.2, ← told, eq-eqb number 0 zero)
+    pub passes : {after : SoFar} → Behind size s (record_of x) (Ok after) → swept size n s (records rest) ≡ swept size (n + 1) after (records more)
+    unfolding swept
+    passes x = rw (begins, x.1, eq-eqb _ 0 (rw x.1 at x.2), x.3)

@@ -1,9 +1,8 @@
 -- The refusal that one sweep and the search for an address written twice find is the definition's: `judged` tries each line against all
 -- earlier ones, `swept` each by itself, so they part only at a line that writes an address again.
 -- Assumes nothing.
-use Rattle.std.proofs.Common.{◌≡◌, ℕ, zero, suc, ◌+◌, ◌<◌, ◌≤◌, Bool, true, false, cond, ◌||◌, eqb, ltb, leb, ◌↔◌, List, [], ◌∷◌, length, get_or, sym, refl, ap, ◌∙◌, true≢false, le_refl, not-suc-le-zero, lt_irrefl, arith, below_more, ltb-false, ltb-true, le-ltb, lt-ltb, eqb-true, leb-true}
+use Rattle.std.proofs.Common.{◌≡◌, ℕ, zero, suc, ◌+◌, ◌<◌, ◌≤◌, Bool, true, false, cond, ◌||◌, eqb, ltb, leb, ◌↔◌, List, [], ◌∷◌, length, get_or, sym, refl, ap, ◌∙◌, true≢false, le_refl, not-suc-le-zero, lt_irrefl, arith, below_more, ltb-false, ltb-true, le-ltb, lt-ltb, eqb-true, leb-true, Option, None, Some}
 use mathlib.Core.Bool.{and-eq-true_iff, or-true}
-use mathlib.Core.Option.{Option, none, some}
 use Rattle.srecord.specs.Load.{Verdict, closed, data_lines, end_of, judged, kind_of, share, verdict, writes, written_twice}
 use Rattle.srecord.specs.Promises.{Again, AllRead, Finding, FirstAgain, Once, finding, fresh, noted, summary, swept}
 use Rattle.srecord.specs.Records.{Record, address, data_of, is_data}
@@ -14,8 +13,8 @@ use Rattle.srecord.proofs.LineTests.{alone, below, refusal}
 passed_from : (size n : ℕ) (s : SoFar) (ls : List (Option Record)) → n ≤ (swept size n s ls).passed
 unfolding swept
 passed_from size n s [] = le_refl n
-passed_from size n s (none ∷ rest) = le_refl n
-passed_from size n s (some r ∷ rest) =
+passed_from size n s (None ∷ rest) = le_refl n
+passed_from size n s (Some r ∷ rest) =
     let number = alone size r s.closed s.count in
     go (eqb number 0) number _ (passed_from size (n + 1) (noted s (summary r)) rest)
   where
@@ -25,12 +24,12 @@ passed_from size n s (some r ∷ rest) =
     go false number f h = le_refl n
 
 reads_from :
-    (size n : ℕ) (s : SoFar) (ls : List (Option Record)) (i : ℕ) → n + i < (swept size n s ls).passed → get_or ls i none ≡ none → ⊥
+    (size n : ℕ) (s : SoFar) (ls : List (Option Record)) (i : ℕ) → n + i < (swept size n s ls).passed → get_or ls i None ≡ None → ⊥
 unfolding swept
 reads_from size n s [] i less e = omega arith
-reads_from size n s (none ∷ rest) i less e = omega arith
-reads_from size n s (some r ∷ rest) zero less e = let z : ◌≡◌ {A = ℕ} 0 1 = cc in omega arith
-reads_from size n s (some r ∷ rest) (suc i) less e =
+reads_from size n s (None ∷ rest) i less e = omega arith
+reads_from size n s (Some r ∷ rest) zero less e = let z : ◌≡◌ {A = ℕ} 0 1 = cc in omega arith
+reads_from size n s (Some r ∷ rest) (suc i) less e =
     let number = alone size r s.closed s.count in
     go (eqb number 0) number _ (λ h. reads_from size (n + 1) (noted s (summary r)) rest i h e) less
   where
@@ -42,11 +41,11 @@ reads_from size n s (some r ∷ rest) (suc i) less e =
 
 module _ (size : ℕ) (ls : List (Option Record)) where
   abbrev line : ℕ → Option Record
-  line i = get_or ls i none
+  line i = get_or ls i None
 
   -- One of the first n lines writes an address that r writes.
   abbrev Meets : ℕ → Record → Type 0
-  Meets n r = (a : ℕ) × (i : ℕ) × (i < n) × (writes (some r) a ≡ true) × (writes (line i) a ≡ true)
+  Meets n r = (a : ℕ) × (i : ℕ) × (i < n) × (writes (Some r) a ≡ true) × (writes (line i) a ≡ true)
 
   -- `earlier` stands for the first n lines.
   abbrev Before : ℕ → List Record → Type 0
@@ -56,7 +55,7 @@ module _ (size : ℕ) (ls : List (Option Record)) where
   unfolding written_twice
   before_first r = (λ e. absurd (let z : ◌≡◌ {A = ℕ} 0 1 = cc in omega arith), λ x. absurd (omega (arith, x.2)))
 
-  one_more : (n : ℕ) (earlier : List Record) (s : Record) → line n ≡ some s → Before n earlier → Before (n + 1) (s ∷ earlier)
+  one_more : (n : ℕ) (earlier : List Record) (s : Record) → line n ≡ Some s → Before n earlier → Before (n + 1) (s ∷ earlier)
   unfolding written_twice
   one_more n earlier s here before r = (told (share r s) refl, λ x. tells (ltb x.1 n) x refl)
     where
@@ -72,13 +71,13 @@ module _ (size : ℕ) (ls : List (Option Record)) where
 
   -- What is known before line n, the first of `rest`: `earlier` are the records of the lines before it, and s what the sweep noted of them.
   record Reached (n : ℕ) (s : SoFar) (earlier : List Record) (rest : List (Option Record)) : Type 0 where
-    rests : (i : ℕ) → get_or rest i none ≡ line (n + i)
+    rests : (i : ℕ) → get_or rest i None ≡ line (n + i)
     before : Before n earlier
     shut : s.closed ≡ closed earlier
     counted : s.count ≡ data_lines earlier
 
   next :
-      (n : ℕ) (s : SoFar) (earlier : List Record) (r : Record) (rest : List (Option Record)) → Reached n s earlier (some r ∷ rest) →
+      (n : ℕ) (s : SoFar) (earlier : List Record) (r : Record) (rest : List (Option Record)) → Reached n s earlier (Some r ∷ rest) →
       Reached (n + 1) (noted s (summary r)) (r ∷ earlier) rest
   unfolding noted closed data_lines
   next n s earlier r rest x =
@@ -109,9 +108,9 @@ module _ (size : ℕ) (ls : List (Option Record)) where
     -- One line, by its refusal by itself.
     step :
         (n : ℕ) (s : SoFar) (earlier : List Record) (r : Record) (rest : List (Option Record)) →
-        Reached n s earlier (some r ∷ rest) → n ≤ k → f ≡ swept size n s (some r ∷ rest) →
+        Reached n s earlier (Some r ∷ rest) → n ≤ k → f ≡ swept size n s (Some r ∷ rest) →
         (n + 1 ≤ k → f ≡ swept size (n + 1) (noted s (summary r)) rest → judged size (n + 1 + 1) (r ∷ earlier) rest ≡ answer) →
-        judged size (n + 1) earlier (some r ∷ rest) ≡ answer
+        judged size (n + 1) earlier (Some r ∷ rest) ≡ answer
     unfolding swept judged answer
     step n s earlier r rest x low e later =
         rw (refusal size r earlier (λ t. let m = (x.before r).0 t in (m.0, m.3)))
@@ -120,7 +119,7 @@ module _ (size : ℕ) (ls : List (Option Record)) where
         number : ℕ
         number = alone size r s.closed s.count
 
-        here : line n ≡ some r
+        here : line n ≡ Some r
         here = sym (x.rests 0 ∙ ap line (omega arith))
 
         further : f ≡ swept size (n + 1) (noted s (summary r)) rest → n + 1 ≤ f.passed
@@ -161,15 +160,15 @@ module _ (size : ℕ) (ls : List (Option Record)) where
         go : (shut : Bool) → f ≡ finding (cond shut 0 15) 0 n s.ordered → cond shut (verdict 0 0) (verdict 15 0) ≡ answer
         go true e = stopped n 0 0 s.ordered low e
         go false e = stopped n 15 0 s.ordered low e
-    walk (none ∷ rest) n s earlier x low e = stopped n 10 (n + 1) s.ordered low e
-    walk (some r ∷ rest) n s earlier x low e =
+    walk (None ∷ rest) n s earlier x low e = stopped n 10 (n + 1) s.ordered low e
+    walk (Some r ∷ rest) n s earlier x low e =
         step n s earlier r rest x low e
         (walk rest (n + 1) (noted s (summary r)) (r ∷ earlier) (next n s earlier r rest x))
 
 -- Lines whose data stand in order write no address twice: each begins at or behind the end of all before it.
 module _ (ls : List (Option Record)) (low high : ℕ) where
   abbrev at : ℕ → Option Record
-  at i = get_or ls i none
+  at i = get_or ls i None
 
   abbrev InOrder : ℕ → SoFar → Type 0
   InOrder n s = s.ordered ≡ true → ((i a : ℕ) → i < n → writes (at i) a ≡ true → a < s.top) × Once ls n low high
@@ -178,7 +177,7 @@ module _ (ls : List (Option Record)) (low high : ℕ) where
   abbrev top : SoFar → Record → Bool → ℕ
   top s r empty = cond empty s.top (end_of r)
 
-  still_in_order : (n : ℕ) (s : SoFar) (r : Record) → at n ≡ some r → InOrder n s → InOrder (n + 1) (noted s (summary r))
+  still_in_order : (n : ℕ) (s : SoFar) (r : Record) → at n ≡ Some r → InOrder n s → InOrder (n + 1) (noted s (summary r))
   unfolding noted
   still_in_order n s r here x o =
       let both = (and-eq-true_iff s.ordered (eqb (length (data_of r)) 0 || leb s.top (address r))).0 o in
@@ -199,17 +198,17 @@ module _ (ls : List (Option Record)) (low high : ℕ) where
     where
       go :
           (empty : Bool) → eqb (length (data_of r)) 0 ≡ empty → (empty || leb s.top (address r)) ≡ true →
-          (s.top ≤ top s r empty) × ((a : ℕ) → writes (some r) a ≡ true → (s.top ≤ a) × (a < top s r empty))
+          (s.top ≤ top s r empty) × ((a : ℕ) → writes (Some r) a ≡ true → (s.top ≤ a) × (a < top s r empty))
       go true e o = (le_refl s.top, λ a w. let v = inside r a w in absurd (omega (arith, eqb-true (length (data_of r)) 0 e)))
       go false e o = let rises = leb-true s.top (address r) o in (omega arith, λ a w. let v = inside r a w in (omega arith, omega arith))
 
   sweep_in_order :
-      (size : ℕ) (rest : List (Option Record)) (n : ℕ) (s : SoFar) → ((i : ℕ) → get_or rest i none ≡ at (n + i)) → InOrder n s →
+      (size : ℕ) (rest : List (Option Record)) (n : ℕ) (s : SoFar) → ((i : ℕ) → get_or rest i None ≡ at (n + i)) → InOrder n s →
       (swept size n s rest).ordered ≡ true → Once ls (swept size n s rest).passed low high
   unfolding swept
   sweep_in_order size [] n s rests x o = (x o).1
-  sweep_in_order size (none ∷ rest) n s rests x o = (x o).1
-  sweep_in_order size (some r ∷ rest) n s rests x o =
+  sweep_in_order size (None ∷ rest) n s rests x o = (x o).1
+  sweep_in_order size (Some r ∷ rest) n s rests x o =
       let number = alone size r s.closed s.count in
       go (eqb number 0) number _
       (sweep_in_order size rest (n + 1) (noted s (summary r)) (λ i. rests (suc i) ∙ ap at (omega arith))
@@ -224,8 +223,8 @@ module _ (ls : List (Option Record)) (low high : ℕ) where
 
 -- What one sweep finds, in these terms.
 module _ (size : ℕ) (ls : List (Option Record)) (f : Finding) (sweeps : f ≡ swept size 0 fresh ls) where
-  from_first : (i : ℕ) → get_or ls i none ≡ get_or ls (0 + i) none
-  from_first i = ap (λ (i : ℕ). get_or ls i none) (omega arith)
+  from_first : (i : ℕ) → get_or ls i None ≡ get_or ls (0 + i) None
+  from_first i = ap (λ (i : ℕ). get_or ls i None) (omega arith)
 
   -- The lines passed are records.
   pub all_read : AllRead ls f.passed
@@ -254,7 +253,3 @@ module _ (size : ℕ) (ls : List (Option Record)) (f : Finding) (sweeps : f ≡ 
       let n = f.passed in
       verdict_found n (record { within = le_refl n; once = once; again = λ less. absurd (lt_irrefl n less) })
       ∙ rw (le-ltb n n (le_refl n))
-
-  pub verdict_again : (n : ℕ) → n < f.passed → Once ls n 0 size → Again ls n → judged size 1 [] ls ≡ verdict 13 (n + 1)
-  verdict_again n less once again =
-      verdict_found n (record { within = omega arith; once = once; again = λ _. again }) ∙ rw (lt-ltb n f.passed less)

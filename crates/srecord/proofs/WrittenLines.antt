@@ -1,10 +1,10 @@
 -- Laws of the lines that `export` writes: their parts, one behind the other, and how long they are.
 -- Assumes nothing.
-use Rattle.std.proofs.Common.{◌≡◌, ℕ, zero, suc, ◌+◌, ◌-◌, ◌*◌, ◌/◌, ◌%◌, ◌^◌, ◌<◌, ◌≤◌, min, Bool, true, false, ltb, List, [], ◌∷◌, ◌++◌, length, get_or, take, drop, set, sym, refl, ap, ◌∙◌, append_assoc, add_assoc, add-one, arith, length-append, length-drop, take-append-drop, length-take, take_all, drop-drop, ltb-false, ltb-true}
+use Rattle.std.proofs.Common.{◌≡◌, ℕ, zero, suc, ◌+◌, ◌-◌, ◌*◌, ◌/◌, ◌%◌, ◌^◌, ◌<◌, ◌≤◌, min, Bool, true, false, ltb, List, [], ◌∷◌, ◌++◌, length, get_or, take, drop, set, sym, refl, ap, ◌∙◌, append_assoc, add_assoc, add-one, arith, length-append, length-drop, take-append-drop, length-take, le_refl, drop_of_length-le, take_all, drop-drop, ltb-false, ltb-true}
 use native.Mathlib.Nat.{min-eq_left, min-eq_right}
-use lib.Seq.{sets, take-length}
+use lib.Seq.{drop-append_seam, sets, take-append_seam, take-length}
 use Rattle.text.specs.Text.{ascii, line_feed}
-use Rattle.srecord.specs.Export.{check_byte, counted, s3_lines, exported, line_of, pairs}
+use Rattle.srecord.specs.Export.{check_byte, counted, s3_lines, exported, line_of, memory_lines, pairs}
 use Rattle.srecord.specs.Promises.{Places}
 use Rattle.srecord.specs.Load.{sum}
 use Rattle.srecord.proofs.WrittenPairs.{behind, both, pairs_append, pairs_length, sum_append}
@@ -82,6 +82,9 @@ line_placed b at start address bytes l h e p q r =
 abbrev pub lines_from : List ℕ → ℕ → List ℕ
 lines_from memory at = s3_lines ((length memory - at + 15) / 16) at (drop at memory)
 
+pub all_lines : (memory : List ℕ) → lines_from memory 0 ≡ memory_lines memory
+all_lines memory = let whole : length memory - 0 ≡ length memory = omega arith in rw whole
+
 pub next_line :
     (memory : List ℕ) (at : ℕ) → at < length memory →
     lines_from memory at ≡ line_of (ascii "S3") at (take 16 (drop at memory)) ++ lines_from memory (at + 16)
@@ -92,10 +95,10 @@ next_line memory at inside =
 
 pub last_line : (memory : List ℕ) (at : ℕ) → length memory ≤ at → lines_from memory at ≡ []
 unfolding s3_lines
-last_line memory at over = let none : (length memory - at + 15) / 16 ≡ 0 = omega arith in rw none
+last_line memory at over = let empty : (length memory - at + 15) / 16 ≡ 0 = omega arith in rw empty
 
 -- A line takes 16 bytes, or those that are left.
-pub piece : (l : List ℕ) → take (min 16 (length l)) l ≡ take 16 l
+piece : (l : List ℕ) → take (min 16 (length l)) l ≡ take 16 l
 piece l = go (ltb (length l) 16) refl
   where
     go : (t : Bool) → ltb (length l) 16 ≡ t → take (min 16 (length l)) l ≡ take 16 l
@@ -109,34 +112,46 @@ abbrev pub lines_length : ℕ → ℕ
 lines_length n = 2 * n + 15 * ((n + 15) / 16)
 
 piece_left : (n k : ℕ) → 0 < n → k ≡ min 16 n → 2 + (2 * k + 13) + lines_length (n - 16) ≡ lines_length n
-piece_left n k some e = omega (arith, e)
+piece_left n k more e = omega (arith, e)
 
-pub piece_length :
-    (memory : List ℕ) (at : ℕ) {k : ℕ} → k ≡ min 16 (length memory - at) → length (take (at + k - at) (drop at memory)) ≡ k
-piece_length memory at {k} e = length-take (at + k - at) (drop at memory) ∙ rw (length-drop at memory) (omega (arith, e))
+piece_behind : (l : List ℕ) → drop (min 16 (length l)) l ≡ drop 16 l
+piece_behind l = go (ltb (length l) 16) refl
+  where
+    go : (t : Bool) → ltb (length l) 16 ≡ t → drop (min 16 (length l)) l ≡ drop 16 l
+    go true e =
+        let short : length l ≤ 16 = omega (arith, ltb-true (length l) 16 e) in
+        rw (min-eq_right short, drop_of_length-le l (le_refl (length l)), drop_of_length-le l short)
+    go false e = rw (min-eq_left (ltb-false (length l) 16 e))
+
+-- A chunk of 16, and what stands behind it.
+pub chunk :
+    {x rest : List ℕ} (more : List ℕ) → rest ≡ x ++ more → length x ≡ min 16 (length rest) → (x ≡ take 16 rest) × (more ≡ drop 16 rest)
+chunk {x} {rest} more e n =
+    let front : take (length x) rest ≡ x = rw e (take-append_seam x more) in
+    let back : drop (length x) rest ≡ more = rw e (drop-append_seam x more) in
+    (sym front ∙ rw n (piece rest), sym back ∙ rw n (piece_behind rest))
 
 pub piece_fits :
     (n at place room : ℕ) {k : ℕ} → at < n → k ≡ min 16 (n - at) → place + lines_length (n - at) ≡ lines_length n → lines_length n ≤ room →
     place + (2 * k + 15) ≤ room
 piece_fits n at place room {k} inside e left h =
-    let some : 0 < n - at = omega arith in
-    omega (arith, piece_left (n - at) k some e)
+    let more : 0 < n - at = omega arith in
+    omega (arith, piece_left (n - at) k more e)
 
 pub line_done :
-    (memory b : List ℕ) (at place : ℕ) {k : ℕ} {a : List ℕ} {end : ℕ} → at < length memory → k ≡ min 16 (length memory - at) →
-    Places (line_of (ascii "S3") at (take (at + k - at) (drop at memory))) b place a end →
+    (memory b : List ℕ) (at place : ℕ) {a : List ℕ} {end : ℕ} → at < length memory →
+    Places (line_of (ascii "S3") at (take 16 (drop at memory))) b place a end →
     (end + lines_length (length memory - (at + 16)) ≡ place + lines_length (length memory - at)) ×
     (sets a end (lines_from memory (at + 16)) ≡ sets b place (lines_from memory at))
-line_done memory b at place {k} inside e done =
+line_done memory b at place inside done =
     let l = drop at memory in
     let m = length memory - at in
-    let some : 0 < m = omega arith in
-    let n : at + k - at ≡ min 16 (length l) = rw (length-drop at memory) (omega (arith, e)) in
-    let bytes : take (at + k - at) l ≡ take 16 l = rw n (piece l) in
+    let more : 0 < m = omega arith in
+    let many : length (take 16 l) ≡ min 16 m = length-take 16 l ∙ rw (length-drop at memory) in
     let fewer : length memory - (at + 16) ≡ m - 16 = omega arith in (
-      rw (done.ends, line_length (ascii "S3") at (take (at + k - at) l), piece_length memory at e, fewer)
-          (add_assoc place (2 + (2 * k + 13)) (lines_length (m - 16)) ∙ ap (λ (x : ℕ). place + x) (piece_left m k some e)),
-      rw (done.places, done.ends, bytes, next_line memory at inside)
+      rw (done.ends, line_length (ascii "S3") at (take 16 l), many, fewer)
+          (add_assoc place (2 + (2 * min 16 m + 13)) (lines_length (m - 16)) ∙ ap (λ (x : ℕ). place + x) (piece_left m (min 16 m) more refl)),
+      rw (done.places, done.ends, next_line memory at inside)
           (both b (line_of (ascii "S3") at (take 16 l)) (lines_from memory (at + 16)) place),
     )
 

@@ -1,10 +1,10 @@
 -- Writing a memory as a text: document 02, request One.
-use Rattle.std.specs.Prelude.{◌≡◌, ℕ, zero, suc, ◌+◌, ◌-◌, ◌/◌, ◌%◌, cond, List, [], ◌∷◌, ◌++◌, length, take, drop, ◌==◌, nat_lt}
+use Rattle.std.specs.Prelude.{◌≡◌, ℕ, zero, suc, ◌+◌, ◌-◌, ◌/◌, ◌%◌, if◌then◌else◌, List, [], ◌∷◌, ◌++◌, length, take, drop, ◌==◌, nat_lt, Result, IfOk}
 use Rattle.memory.specs.Lengths.{first, length_tests, test}
 use Rattle.text.specs.Text.{ascii, hex_in, line_feed}
 use Rattle.text.specs.declared.digits.Case.TheVariants.{Upper}
-use Rattle.srecord.specs.declared.Exported.{Exported}
-use Rattle.srecord.specs.Load.{refusal_number, sum}
+use Rattle.srecord.specs.declared.Refusal.{Refusal}
+use Rattle.srecord.specs.Load.{number_of, sum}
 
 -- Bytes as pairs of hexadecimal digits, "written in upper" case.
 unfoldable pub pairs : List ℕ → List ℕ
@@ -48,7 +48,7 @@ refused_export memory buffer =
 
 -- What `export` promises: the paper's number, the text's length, and every byte of the buffer: "nothing written" where it is refused,
 -- "buffer bytes beyond the text stay".
-pub record Exports (memory buffer : List ℕ) (answer : Exported) (after : List ℕ) : Type 0 where
-  pub refuses : refusal_number answer.refusal ≡ refused_export memory buffer
-  pub counts : answer.length ≡ cond (refused_export memory buffer == 0) (length (exported memory)) 0
-  pub leaves : after ≡ cond (refused_export memory buffer == 0) (exported memory ++ drop (length (exported memory)) buffer) buffer
+pub record Exports (memory buffer : List ℕ) (answer : Result ℕ Refusal) (after : List ℕ) : Type 0 where
+  pub refuses : number_of answer ≡ refused_export memory buffer
+  pub counts : IfOk answer (λ n. n ≡ length (exported memory))
+  pub leaves : after ≡ (if refused_export memory buffer == 0 then exported memory ++ drop (length (exported memory)) buffer else buffer)

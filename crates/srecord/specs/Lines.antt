@@ -1,6 +1,5 @@
 -- A text as its lines: document 02, request One.
-use Rattle.std.specs.Prelude.{ℕ, ◌-◌, Bool, cond, List, [], ◌∷◌, ◌++◌, length, take, ◌==◌, slice_index}
-use Rattle.std.proofs.Math.Option.{Option, none, some}
+use Rattle.std.specs.Prelude.{ℕ, ◌-◌, Bool, cond, List, [], ◌∷◌, ◌++◌, length, take, ◌==◌, slice_index, Option, None, Some}
 
 -- A text cut behind each line feed; `begun` are the bytes of the present line that were passed already. What no line feed ends is a line
 -- too.
@@ -22,4 +21,4 @@ without_return line = cond (ends_in 13 line) (without_last line) line
 
 -- "ends in a line feed, a carriage return allowed before it": what stands before a line's end, where it has one.
 unfoldable pub content : List ℕ → Option (List ℕ)
-content line = cond (ends_in 10 line) (some (without_return (without_last line))) none
+content line = cond (ends_in 10 line) (Some (without_return (without_last line))) None

@@ -1,18 +1,16 @@
 -- Loading a text into a memory: document 02, request One. The refusals in its order, and the memory after.
-use Rattle.std.specs.Prelude.{◌≡◌, ℕ, ◌+◌, ◌%◌, min, max, Bool, true, false, cond, not, ◌&&◌, ◌||◌, List, [], ◌∷◌, map, length, ◌==◌, nat_le, nat_lt}
-use Rattle.std.proofs.Math.Option.{Option, none, some}
+use Rattle.std.specs.Prelude.{◌≡◌, ℕ, ◌+◌, ◌%◌, min, max, Bool, true, false, cond, not, ◌&&◌, ◌||◌, List, [], ◌∷◌, map, length, ◌==◌, nat_le, nat_lt, Option, None, Some, Result, Ok, Err, ⊤}
 use Rattle.std.proofs.lemmas.List.Edits.{sets}
 use Rattle.memory.specs.Lengths.{Test, first, refused_length, test}
-use Rattle.srecord.specs.declared.Loaded.{Loaded}
 use Rattle.srecord.specs.declared.Refusal.{Refusal}
-use Rattle.srecord.specs.declared.Refusal.TheVariants.{Accepted, Ragged, Size, Line, Check, Outside, Twice, Number, Unclosed, Room}
+use Rattle.srecord.specs.declared.Refusal.TheVariants.{Ragged, Size, Line, Check, Outside, Twice, Number, Unclosed, Room}
+use Rattle.srecord.specs.declared.Refused.{Refused}
 use Rattle.srecord.specs.declared.openings.Kind.{Kind}
 use Rattle.srecord.specs.Lines.{lines}
 use Rattle.srecord.specs.Records.{Record, address, data_of, is_closing, is_count, is_data, record_of}
 
--- The paper's number of a refusal; 0 for none.
+-- The paper's number of a refusal,
 abbrev pub refusal_number : Refusal → ℕ
-refusal_number Accepted = 0
 refusal_number Ragged = 1
 refusal_number Size = 2
 refusal_number Line = 10
@@ -22,6 +20,11 @@ refusal_number Twice = 13
 refusal_number Number = 14
 refusal_number Unclosed = 15
 refusal_number Room = 16
+
+-- and of an answer: 0 where it is none.
+abbrev pub number_of : {A : Type 0} → Result A Refusal → ℕ
+number_of (Ok x) = 0
+number_of (Err refusal) = refusal_number refusal
 
 abbrev pub sum : List ℕ → ℕ
 sum [] = 0
@@ -36,8 +39,8 @@ end_of r = address r + length (data_of r)
 
 -- Whether a line writes an address: in this word the theorems speak of bytes that lines name.
 abbrev pub writes : Option Record → ℕ → Bool
-writes none a = false
-writes (some r) a = nat_le (address r) a && nat_lt a (end_of r)
+writes None a = false
+writes (Some r) a = nat_le (address r) a && nat_lt a (end_of r)
 
 -- Whether the records are closed: one of them is an S7, S8 or S9 line.
 unfoldable pub closed : List Record → Bool
@@ -71,12 +74,12 @@ record_tests size earlier r =
 
 -- A line's refusals. 10: "bad letter, type, length or line end"
 abbrev pub line_tests : ℕ → List Record → Option Record → List Test
-line_tests size earlier none = test 10 true ∷ []
-line_tests size earlier (some r) = record_tests size earlier r
+line_tests size earlier None = test 10 true ∷ []
+line_tests size earlier (Some r) = record_tests size earlier r
 
 abbrev pub and_before : Option Record → List Record → List Record
-and_before none earlier = earlier
-and_before (some r) earlier = r ∷ earlier
+and_before None earlier = earlier
+and_before (Some r) earlier = r ∷ earlier
 
 -- The refusal's number, 0 where the text is accepted, and the line that it is about, 0 where it is about none.
 pub record Verdict : Type 0 where
@@ -85,6 +88,10 @@ pub record Verdict : Type 0 where
 
 abbrev pub verdict : ℕ → ℕ → Verdict
 verdict number line = record { number = number; line = line }
+
+abbrev pub told : Result ⊤ Refused → Verdict
+told (Ok done) = verdict 0 0
+told (Err r) = verdict (refusal_number r.refusal) r.line
 
 -- Line by line from line n on: the first bad line decides. 15: "at the end .. no closing line"
 unfoldable pub judged : ℕ → ℕ → List Record → List (Option Record) → Verdict
@@ -104,14 +111,14 @@ verdict_on text size =
 -- The memory with the data of each line from its address on.
 unfoldable pub placed : List ℕ → List (Option Record) → List ℕ
 placed memory [] = memory
-placed memory (none ∷ rest) = placed memory rest
-placed memory (some r ∷ rest) = placed (sets memory (address r) (data_of r)) rest
+placed memory (None ∷ rest) = placed memory rest
+placed memory (Some r ∷ rest) = placed (sets memory (address r) (data_of r)) rest
 
 -- "Bytes that no line names keep their value, and a refused text changes no byte."
 abbrev pub memory_after : List ℕ → List ℕ → List ℕ
 memory_after text memory = cond ((verdict_on text (length memory)).number == 0) (placed memory (records text)) memory
 
 -- What `load` promises: the paper's number, the line, and every byte of the memory.
-pub record Loads (text memory : List ℕ) (answer : Loaded) (after : List ℕ) : Type 0 where
-  pub answers : verdict (refusal_number answer.refusal) answer.line ≡ verdict_on text (length memory)
+pub record Loads (text memory : List ℕ) (answer : Result ⊤ Refused) (after : List ℕ) : Type 0 where
+  pub answers : told answer ≡ verdict_on text (length memory)
   pub leaves : after ≡ memory_after text memory

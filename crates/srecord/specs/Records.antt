@@ -1,15 +1,13 @@
 -- A record from a line: document 02, request One.
-use Rattle.std.specs.Prelude.{ℕ, ◌+◌, ◌-◌, Bool, true, false, cond, ◌&&◌, List, [], ◌∷◌, length, take, drop, ◌==◌, nat_le, slice_index}
-use Rattle.std.proofs.Math.Option.{Option, none, some}
+use Rattle.std.specs.Prelude.{ℕ, ◌+◌, ◌-◌, Bool, true, false, cond, ◌&&◌, List, [], ◌∷◌, length, take, drop, ◌==◌, nat_le, slice_index, Option, None, Some}
 use Prim.Native.String.{String}
 use Rattle.memory.specs.Access.{value_at}
 use Rattle.text.specs.Reading.{value}
 use Rattle.text.specs.Text.{ascii}
 use Rattle.text.specs.declared.reading.Letters.TheVariants.{EitherCase}
-use Rattle.text.specs.declared.reading.Read.{Read}
-use Rattle.text.specs.declared.reading.Read.TheVariants.{Number, NotHex}
 use Rattle.srecord.specs.declared.openings.Kind.{Kind}
 use Rattle.srecord.specs.declared.openings.Kind.TheVariants.{Header, Data, Count, Closing}
+use Rattle.srecord.specs.declared.openings.Opening.{Opening}
 use Rattle.srecord.specs.Lines.{content}
 
 -- What a line is for.
@@ -32,11 +30,6 @@ is_closing Count = false
 is_closing Closing = true
 
 -- One of the "eight byte strings" that open a line, what such a line is for, and how many bytes its address has.
-pub record Opening : Type 0 where
-  pub start : List ℕ
-  pub kind : Kind
-  pub width : ℕ
-
 abbrev opening : String → Kind → ℕ → Opening
 opening start kind width = record { start = ascii start; kind = kind; width = width }
 
@@ -60,22 +53,22 @@ same (a ∷ x) (b ∷ y) = a == b && same x y
 
 -- The opening whose two bytes these are.
 abbrev pub among : List Opening → List ℕ → Option Opening
-among [] start = none
-among (o ∷ rest) start = cond (same start o.start) (some o) (among rest start)
+among [] start = None
+among (o ∷ rest) start = cond (same start o.start) (Some o) (among rest start)
 
 unfoldable pub opening_of : List ℕ → Option Opening
 opening_of line = among openings (take 2 line)
 
 -- A byte in front of others, where all of them were read.
-abbrev pub before : Read → Option (List ℕ) → Option (List ℕ)
-before (Number byte) (some bytes) = some (byte ∷ bytes)
-before (Number byte) none = none
-before NotHex bytes = none
+abbrev pub before : Option ℕ → Option (List ℕ) → Option (List ℕ)
+before (Some byte) (Some bytes) = Some (byte ∷ bytes)
+before (Some byte) None = None
+before None bytes = None
 
 -- The bytes that pairs of hexadecimal digits make, "read in either case"; none where the text is anything else.
 unfoldable pub bytes_of : List ℕ → Option (List ℕ)
-bytes_of [] = some []
-bytes_of (a ∷ []) = none
+bytes_of [] = Some []
+bytes_of (a ∷ []) = None
 bytes_of (a ∷ b ∷ rest) = before (value EitherCase (a ∷ b ∷ [])) (bytes_of rest)
 
 -- A line's opening, and the bytes behind it: count, address, data and check byte.
@@ -95,15 +88,15 @@ abbrev pub fits : Opening → List ℕ → Bool
 fits o bytes = length bytes == slice_index bytes 0 + 1 && may o.kind (o.width + 1) (slice_index bytes 0)
 
 abbrev pub and_then : {A B : Type 0} → Option A → (A → Option B) → Option B
-and_then none f = none
-and_then (some x) f = f x
+and_then None f = None
+and_then (Some x) f = f x
 
 -- The record that a line is; none where a letter, the type, the length or the line's end is bad.
 unfoldable pub record_of : List ℕ → Option Record
 record_of line =
     and_then (content line) (λ l.
     and_then (opening_of l) (λ o.
-    and_then (bytes_of (drop 2 l)) (λ bytes. cond (fits o bytes) (some (record { opening = o; bytes = bytes })) none)))
+    and_then (bytes_of (drop 2 l)) (λ bytes. cond (fits o bytes) (Some (record { opening = o; bytes = bytes })) None)))
 
 -- "address of 2, 3 or 4 bytes"
 abbrev pub address : Record → ℕ

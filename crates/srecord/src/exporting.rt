@@ -8,8 +8,7 @@ ghost use Rattle.srecord.specs.Export.{Exports, line_of, memory_lines};
 ghost use Rattle.srecord.specs.Load as Load;
 ghost use Rattle.srecord.specs.Promises.{Places};
 
-use crate::{Exported, Refusal, openings};
-use std::num::wrapping_add_u8;
+use crate::{Refusal, openings};
 
 // A digit's character without a branch, since the digits of a memory mislead a processor that guesses: between 9 and A stand seven others.
 fn digit(d: u8) -> u8
@@ -19,17 +18,15 @@ fn digit(d: u8) -> u8
     48 + d + (d + 6) / 16 * 7
 }
 
-// The digits of bytes, two each.
+// The digits of bytes, two each. An iterator over the bytes, with the place counted beside it, took twice as long as the index.
 fn pairs(buffer: &mut [u8], at: usize, bytes: &[u8])
     requires { at + 2 * length bytes.now ≤ length buffer.old }
     ensures { buffer.new ≡ sets buffer.old at (Export.pairs bytes.now) }
 {
-    let mut i = 0;
-    while i < bytes.len() {
+    for i in 0..bytes.len() {
         let byte = bytes[i];
         buffer[at + 2 * i] = digit(byte / 16);
         buffer[at + 2 * i + 1] = digit(byte % 16);
-        i += 1;
     }
 }
 
@@ -38,10 +35,8 @@ fn sum(bytes: &[u8]) -> u8
     ensures { result ≡ Load.sum bytes.now % 256 }
 {
     let mut total: u8 = 0;
-    let mut i = 0;
-    while i < bytes.len() {
-        total = wrapping_add_u8(total, bytes[i]);
-        i += 1;
+    for byte in bytes {
+        total = total.wrapping_add(*byte);
     }
     total
 }
@@ -59,7 +54,7 @@ fn line(buffer: &mut [u8], at: usize, start: &[u8; 2], address: u32, bytes: &[u8
         (address / 0x100 % 256) as u8,
         (address % 256) as u8,
     ];
-    let check = [255 - wrapping_add_u8(sum(&head), sum(bytes))];
+    let check = [255 - sum(&head).wrapping_add(sum(bytes))];
     let end = at + 12 + 2 * bytes.len();
     buffer[at] = start[0];
     buffer[at + 1] = start[1];
@@ -70,58 +65,26 @@ fn line(buffer: &mut [u8], at: usize, start: &[u8; 2], address: u32, bytes: &[u8
     end + 3
 }
 
-// How many of the bytes that are left the next line has.
-fn piece(left: usize) -> usize
-    ensures { result ≡ min 16 left }
-{
-    if left < 16 {
-        return left;
-    }
-    16
-}
-
 fn data_lines(memory: &[u8], buffer: &mut [u8]) -> usize
     requires { (length memory.now ≤ 16777216) × (length (memory_lines memory.now) ≤ length buffer.old) }
     ensures { Places (memory_lines memory.now) buffer.old 0 buffer.new result }
 {
-    let n = memory.len();
     let mut place = 0;
-    let mut at = 0;
-    while at < n {
-        let end = at + piece(n - at);
-        place = line(buffer, place, &openings::S3, at as u32, &memory[at..end]);
-        at += 16;
+    for (i, bytes) in memory.chunks(16).enumerate() {
+        place = line(buffer, place, &openings::S3, 16 * i as u32, bytes);
     }
     place
 }
 
-fn refused(refusal: Refusal) -> Exported
-    ensures { result ≡ record { refusal = refusal; length = 0 } }
-{
-    Exported {
-        refusal: refusal,
-        length: 0,
-    }
-}
-
-pub fn export(memory: &[u8], buffer: &mut [u8]) -> Exported
+pub fn export(memory: &[u8], buffer: &mut [u8]) -> Result<usize, Refusal>
     ensures { Exports memory.now buffer.old result buffer.new }
 {
     let n = memory.len();
-    let length = memory::refused_length(n);
-    if length == 1 {
-        return refused(Refusal::Ragged);
-    }
-    if length != 0 {
-        return refused(Refusal::Size);
-    }
+    memory::check_length(n)?;
     // Two digits a byte; and 15 characters more a line: start, count, address, check byte and line feed.
     if buffer.len() < 2 * n + 15 * ((n + 15) / 16) + 15 {
-        return refused(Refusal::Room);
+        return Err(Refusal::Room);
     }
     let place = data_lines(memory, buffer);
-    Exported {
-        refusal: Refusal::Accepted,
-        length: line(buffer, place, &openings::S7, 0, &memory[..0]),
-    }
+    Ok(line(buffer, place, &openings::S7, 0, &[]))
 }

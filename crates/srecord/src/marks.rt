@@ -1,22 +1,24 @@
 // Marks, a bit each, on addresses of a part of the memory.
-ghost use Rattle.std.specs.Prelude.{◌≡◌, ◌≤◌, length};
-ghost use Rattle.srecord.specs.Promises.{Marks, between};
+ghost use Rattle.std.specs.Prelude.{◌≤◌};
+ghost use Rattle.srecord.specs.Promises as Promises;
+
+// The addresses that are marked at once, a bit each: the marks stay on the stack, with all else in less than 32 KiB.
+pub const WINDOW: usize = 229376;
+
+pub type Marks = [u8; 28672];
 
 // Marks those from `low` to below `high`, up to the first that is marked already, and answers whether there is one.
-pub fn mark(marks: &mut [u8], low: usize, high: usize) -> bool
-    requires { (length marks.old ≡ 28672) × (low ≤ high) × (high ≤ 229376) }
-    ensures { Marks marks.old (between low high) result marks.new }
+pub fn mark(marks: &mut Marks, low: usize, high: usize) -> bool
+    requires { (low ≤ high) × (high ≤ 229376) }
+    ensures { Promises.Marks marks.old (Promises.between low high) result marks.new }
 {
-    let mut i = low;
-    while i < high {
-        let at = i / 8;
-        let old = marks[at];
+    for i in low..high {
+        let old = marks[i / 8];
         let bit = i % 8;
         if (old >> bit) % 2 == 1 {
             return true;
         }
-        marks[at] = old + (1u8 << bit);
-        i += 1;
+        marks[i / 8] = old + (1u8 << bit);
     }
     false
 }

@@ -4,7 +4,6 @@ ghost use Rattle.srecord.specs.Load.{placed, records};
 ghost use Rattle.srecord.specs.Promises.{PlacesData, placed_by};
 ghost use Rattle.srecord.specs.Records.{record_of};
 
-use crate::records::Parsed;
 use crate::{lines, records};
 
 // Writes a byte, where there is memory.
@@ -17,16 +16,12 @@ fn put(memory: &mut [u8], at: usize, byte: u8)
     memory[at] = byte;
 }
 
-// Writes `n` bytes from `address` on, those of the pairs of digits from number `from` on.
-fn place_data(digits: &[u8], from: usize, n: u32, memory: &mut [u8], address: u32)
-    requires { 2 * (from + n) ≤ length digits.now }
-    ensures { PlacesData digits.now from n memory.old address memory.new }
+// Writes the bytes that pairs of digits make, from `address` on.
+fn place_data(pairs: &[[u8; 2]], memory: &mut [u8], address: u32)
+    ensures { PlacesData pairs.now memory.old address memory.new }
 {
-    let mut i: u32 = 0;
-    while i < n {
-        let byte = records::byte(digits, from + i as usize);
-        put(memory, address as usize + i as usize, byte);
-        i += 1;
+    for (i, pair) in pairs.iter().enumerate() {
+        put(memory, address as usize + i, records::byte(*pair));
     }
 }
 
@@ -34,21 +29,17 @@ fn place_data(digits: &[u8], from: usize, n: u32, memory: &mut [u8], address: u3
 fn place_line(line: &[u8], memory: &mut [u8])
     ensures { memory.new ≡ placed_by memory.old (record_of line.now) }
 {
-    match records::parse(line) {
-        Parsed::Record(r) => {
-            place_data(&line[2..], r.width + 1, r.length, memory, r.address);
-        }
-        Parsed::Malformed => {}
+    if let Some(r) = records::parse(line) {
+        let (pairs, _) = line[2..].as_chunks::<2>();
+        let from = r.opening.width + 1;
+        place_data(&pairs[from..from + r.length as usize], memory, r.address);
     }
 }
 
 pub fn place(text: &[u8], memory: &mut [u8])
     ensures { memory.new ≡ placed memory.old (records text.now) }
 {
-    let mut at = 0;
-    while at < text.len() {
-        let next = lines::next(text, at);
-        place_line(&text[at..next], memory);
-        at = next;
+    for line in text.split_inclusive(|b| *b == b'\n') {
+        place_line(line, memory);
     }
 }

@@ -1,13 +1,13 @@
 // One sweep over a text's lines: the first that is bad for another reason than an address written twice (document 02, request One).
 ghost use Rattle.std.specs.Prelude.{◌≡◌, ◌+◌, ◌^◌, ◌<◌, not, ◌&&◌, if◌then◌else◌, ◌==◌, nat_eq, nat_lt};
 ghost use Rattle.memory.specs.Lengths.{first};
-ghost use Rattle.srecord.specs.Load.{records, refusal_number};
-ghost use Rattle.srecord.specs.Records.{is_count, is_data};
+ghost use Rattle.srecord.specs.Load.{number_of, records, told, verdict};
+ghost use Rattle.srecord.specs.Records.{is_count, is_data, record_of};
 ghost use Rattle.srecord.specs.Promises as Promises;
 
 use crate::openings::Kind;
-use crate::records::{Parsed, Summary};
-use crate::{Refusal, lines, records};
+use crate::records::Summary;
+use crate::{Refusal, Refused, records};
 
 // What is known of the lines so far: data lines, whether one was a closing line, where the last data ended, and whether each began at or
 // behind the end of the one before it.
@@ -33,11 +33,10 @@ impl SoFar {
     }
 }
 
-// The refusal and its line, the lines before it, and whether their data stand in order.
+// What the sweep answers, the lines before the one that is refused, and whether their data stand in order.
 #[derive(Clone, Copy)]
 pub struct Swept {
-    pub refusal: Refusal,
-    pub line: usize,
+    pub verdict: Result<(), Refused>,
     pub passed: usize,
     pub ordered: bool,
 }
@@ -49,39 +48,35 @@ fn outside(size: usize, r: Summary) -> bool
 }
 
 fn wrong_number(count: usize, r: Summary) -> bool
-    ensures { result ≡ (is_count r.kind && not (r.address == count)) }
+    ensures { result ≡ (is_count r.opening.kind && not (r.address == count)) }
 {
-    let kind = r.kind;
-    kind.is_count() & (r.address as usize != count)
+    (r.opening.kind == Kind::Count) & (r.address as usize != count)
 }
 
 // A record's refusal, address written twice left aside.
-fn single(size: usize, s: SoFar, r: Summary) -> Refusal
-    ensures { refusal_number result ≡ first (Promises.single_tests size s.closed s.count r) }
+fn single(size: usize, s: SoFar, r: Summary) -> Result<(), Refusal>
+    ensures { number_of result ≡ first (Promises.single_tests size s.closed s.count r) }
 {
     if s.closed {
-        return Refusal::Line;
+        return Err(Refusal::Line);
     }
     if !r.checks {
-        return Refusal::Check;
+        return Err(Refusal::Check);
     }
     if outside(size, r) {
-        return Refusal::Outside;
+        return Err(Refusal::Outside);
     }
     if wrong_number(s.count, r) {
-        return Refusal::Number;
+        return Err(Refusal::Number);
     }
-    Refusal::Accepted
+    Ok(())
 }
 
 fn count_after(kind: Kind, count: usize) -> usize
     requires { count + 1 < 2 ^ 64 }
     ensures { result ≡ (if is_data kind then count + 1 else count) }
 {
-    if kind.is_data() {
-        return count + 1;
-    }
-    count
+    if kind == Kind::Data { count + 1 } else { count }
 }
 
 fn top_after(top: usize, r: Summary) -> usize
@@ -93,17 +88,28 @@ fn top_after(top: usize, r: Summary) -> usize
     r.address as usize + r.length as usize
 }
 
+#[tactic(auto, unfolding(crate::specs::Promises::noted))]
 fn noted(s: SoFar, r: Summary) -> SoFar
     requires { s.count + 1 < 2 ^ 64 }
     ensures { result ≡ Promises.noted s r }
 {
-    let kind = r.kind;
+    let kind = r.opening.kind;
     SoFar {
         count: count_after(kind, s.count),
-        closed: kind.is_closing() | s.closed,
+        closed: (kind == Kind::Closing) | s.closed,
         top: top_after(s.top, r),
         ordered: s.ordered & ((r.length == 0) | (s.top <= r.address as usize)),
     }
+}
+
+// What is known behind one line more, or why it is refused.
+fn behind(size: usize, s: SoFar, line: &[u8]) -> Result<SoFar, Refusal>
+    requires { s.count + 1 < 2 ^ 64 }
+    ensures { Promises.Behind size s (record_of line.now) result }
+{
+    let r = records::parse(line).ok_or(Refusal::Line)?;
+    single(size, s, r)?;
+    Ok(noted(s, r))
 }
 
 pub fn sweep(text: &[u8], size: usize) -> Swept
@@ -111,47 +117,37 @@ pub fn sweep(text: &[u8], size: usize) -> Swept
 {
     let mut s = SoFar::none();
     let mut n = 0;
-    let mut at = 0;
-    while at < text.len() {
-        let next = lines::next(text, at);
-        match records::parse(&text[at..next]) {
-            Parsed::Record(r) => {
-                let refusal = single(size, s, r);
-                if refusal.number() != 0 {
-                    return Swept {
-                        refusal: refusal,
-                        line: n + 1,
-                        passed: n,
-                        ordered: s.ordered,
-                    };
-                }
-                s = noted(s, r);
-            }
-            Parsed::Malformed => {
+    for line in text.split_inclusive(|b| *b == b'\n') {
+        match behind(size, s, line) {
+            Ok(after) => s = after,
+            Err(refusal) => {
                 return Swept {
-                    refusal: Refusal::Line,
-                    line: n + 1,
+                    verdict: Err(Refused {
+                        refusal,
+                        line: n + 1,
+                    }),
                     passed: n,
                     ordered: s.ordered,
                 };
             }
         }
         n += 1;
-        at = next;
     }
     Swept {
-        refusal: at_end(s.closed),
-        line: 0,
+        verdict: at_end(s.closed),
         passed: n,
         ordered: s.ordered,
     }
 }
 
-fn at_end(closed: bool) -> Refusal
-    ensures { refusal_number result ≡ (if closed then 0 else 15) }
+fn at_end(closed: bool) -> Result<(), Refused>
+    ensures { told result ≡ (if closed then verdict 0 0 else verdict 15 0) }
 {
     if closed {
-        return Refusal::Accepted;
+        return Ok(());
     }
-    Refusal::Unclosed
+    Err(Refused {
+        refusal: Refusal::Unclosed,
+        line: 0,
+    })
 }

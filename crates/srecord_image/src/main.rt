@@ -26,11 +26,11 @@ fn print_image(rt: &impl Print, text: &[u8], memory: &mut [u8]) -> io::Result<()
     if text.len() > LONGEST {
         return println!(rt; "The text is longer than 1,048,576 bytes, the most that is taken.");
     }
-    let answer = srecord::load(text, memory);
-    let refusal = answer.refusal;
-    let number = refusal.number();
-    if number == 0 {
-        return rt.write_all(memory);
+    match srecord::load(text, memory) {
+        Ok(()) => rt.write_all(memory),
+        Err(refused) => {
+            let number = u32::from(refused.refusal);
+            println!(rt; "refused {number} line {}", refused.line)
+        }
     }
-    println!(rt; "refused {number} line {}", answer.line)
 }

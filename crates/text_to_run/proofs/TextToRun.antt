@@ -1,11 +1,14 @@
 -- From text to run: an accepted text leaves a memory of the same length, so no later call is refused, and no promise leaves a choice.
 -- Assumes nothing.
 use mathlib.Core.Path.{◌≡◌, refl, sym, ◌∙◌, ap}
+use mathlib.Core.Bool.{false≢true}
 use mathlib.Core.List.{List}
+use Rattle.std.specs.Prelude.{Result, Ok, Err, IsOk, ⊤}
 use Prim.Native.Nat.{ℕ}
 use lib.ListN.{length}
 use Rattle.memory.specs.Lengths.{refused_length}
-use Rattle.srecord.specs.Load.{Verdict, placed, records, verdict_on}
+use Rattle.srecord.specs.Load.{Verdict, placed, records, told, verdict_on}
+use Rattle.srecord.specs.declared.Refused.{Refused}
 use Rattle.srecord.proofs.Loading.{length_after, lines_accepted}
 use Rattle.machine.specs.declared.Answer.{Answer}
 use Rattle.machine.specs.declared.Machine.{Machine}
@@ -38,9 +41,14 @@ module _ {text memory : List ℕ} {budget : ℕ} (a : Answers text memory budget
   image_fits : refused_length (length a.image) ≡ 0
   image_fits = rw (a.loads.leaves, length_after text memory) (lines_accepted text memory taken).0
 
+accepted_told : (answer : Result ⊤ Refused) → IsOk answer → (told answer).number ≡ 0
+accepted_told (Ok done) e = refl
+accepted_told (Err refused) e = absurd (false≢true e)
+
 pub text_to_run : TextToRun
 text_to_run text memory budget a e =
-    let taken : (verdict_on text (length memory)).number ≡ 0 = sym (ap (λ (v : Verdict). v.number) a.loads.answers) ∙ e in
+    let taken : (verdict_on text (length memory)).number ≡ 0 =
+    sym (ap (λ (v : Verdict). v.number) a.loads.answers) ∙ accepted_told a.loaded e in
     let fits = image_fits a taken in (
       ap (λ (c : Called). c.refusal) (reset_accepted a.image fits a.started a.resets),
       rw (image_placed a taken) at (run_accepted a.image fits budget a.started a.ran a.after a.resets a.runs),

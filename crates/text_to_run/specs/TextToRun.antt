@@ -1,8 +1,7 @@
 -- From text to run: a text loaded, and the machine reset and run over what it leaves. Document 02, request One; document 01, "Reset" and
 -- "Run".
-use Rattle.std.specs.Prelude.{◌≡◌, List, ℕ}
-use Rattle.srecord.specs.declared.Loaded.{Loaded}
-use Rattle.srecord.specs.Load as Load
+use Rattle.std.specs.Prelude.{◌≡◌, List, ℕ, Result, ⊤, IsOk}
+use Rattle.srecord.specs.declared.Refused.{Refused}
 use Rattle.srecord.specs.Load.{Loads, placed, records}
 use Rattle.machine.specs.declared.Answer.{Answer}
 use Rattle.machine.specs.Situation.{over}
@@ -11,7 +10,7 @@ use Rattle.machine.specs.Calls.{Resets, Runs, blank, called, refusal_number, sta
 
 -- Answers that meet the promises of the public operations `load`, `reset` and `run`, each called with what the one before it left.
 pub record Answers (text memory : List ℕ) (budget : ℕ) : Type 0 where
-  pub loaded : Loaded
+  pub loaded : Result ⊤ Refused
   pub image : List ℕ
   pub loads : Loads text memory loaded image
   pub started : Answer
@@ -30,6 +29,6 @@ run_of budget text memory =
 -- end are those of that run.
 abbrev pub TextToRun : Type 0
 TextToRun =
-    (text memory : List ℕ) (budget : ℕ) (a : Answers text memory budget) → Load.refusal_number a.loaded.refusal ≡ 0 →
+    (text memory : List ℕ) (budget : ℕ) (a : Answers text memory budget) → IsOk a.loaded →
     (refusal_number a.started.refusal ≡ 0) ×
     (called a.ran a.after ≡ record { refusal = 0; ran = run_of budget text memory })

@@ -10,7 +10,7 @@ returns c =
     record {
       places =
           line_placed a.buffer.now a.at a.start.now a.address a.bytes.now c.requires.0 c.ranges.address.fits
-          (rw (c.wrapping_add_u8.ensures.value, c.sum-2.ensures, c.sum.ensures))
+          (rw (c.sum-2.ensures, c.sum.ensures))
           c.pairs.ensures c.pairs-2.ensures c.pairs-3.ensures;
       ends = sym (rw (line_length a.start.now a.address a.bytes.now, c.requires.0) (omega arith));
     }

@@ -1,8 +1,8 @@
 -- `mark` marks from `low` on: all before `i` are marked, and none of them was. It stops at one that was marked before.
 -- Assumes nothing.
-use Rattle.std.proofs.Common.{◌≡◌, ◌/◌, ◌%◌, ◌^◌, ◌<◌, ◌∙◌, get_or, arith, eq-eqb, ne_eqb}
+use Rattle.std.proofs.Common.{◌≡◌, ◌/◌, ◌%◌, ◌^◌, ◌<◌, get_or, arith, eq-eqb, ne_eqb}
 use Rattle.srecord.specs.Promises.{between, marked}
-use Rattle.srecord.proofs.Marking.{between_more, between_none, between_within, bit_fits, length_with_mark, shifted}
+use Rattle.srecord.proofs.Marking.{between_more, between_none, between_within, bit_fits, shifted}
 use Rattle.srecord.proofs.Marking.{marks_more, marks_taken}
 use Rattle.srecord.proofs.marks.mark.Goals as goal
 
@@ -10,7 +10,7 @@ pub returns-then-old-bit-eq1 : goal.returns-then-old-bit-eq1
 unfolding marked
 returns-then-old-bit-eq1 c =
     let now = c.loop-i in
-    marks_taken (between c.args.low c.args.high) now.i now.invariant.3
+    marks_taken (between c.args.low c.args.high) now.i now.invariant
     (omega arith) (between_none _ _ now.i (λ h. omega arith)) (between_within _ _ now.i (omega arith) (omega arith))
     (eq-eqb _ _ c.if-old-bit-eq1.true)
 
@@ -27,10 +27,6 @@ unfolding marked
 loop-i-preserved c =
     let now = c.loop-i in
     let i = now.i in
-    rw (shifted (i % 8) (omega arith)) (
-      omega arith,
-      omega arith,
-      length_with_mark now.marks i ∙ now.invariant.2,
-      marks_more _ i now.invariant.3 (omega arith) (between_none _ _ i (λ h. omega arith)) (ne_eqb _ _ c.if-old-bit-eq1.false)
-          (between_more _ i now.invariant.0),
-    )
+    rw (shifted (i % 8) (omega arith))
+    (marks_more _ i now.invariant (omega arith) (between_none _ _ i (λ h. omega arith)) (ne_eqb _ _ c.if-old-bit-eq1.false)
+    (between_more _ i (omega arith)))

@@ -1,12 +1,8 @@
 -- `mark` marks from `low` on: all before `i` are marked, and none of them was.
 -- Assumes nothing.
-use Rattle.std.proofs.Common.{◌≡◌, ◌-◌, ◌≤◌, false, length}
+use Rattle.std.proofs.Common.{false}
 use Rattle.srecord.specs.Promises.{Marks, between}
 use Rattle.srecord.proofs.marks.mark.Given as goal
 
 abbrev pub invariant-loop-i : goal.invariant-loop-i
-invariant-loop-i l =
-    (l.low ≤ l.i) × (l.i ≤ l.high) × (length l.marks ≡ 28672) × Marks l.initial.marks (between l.low l.i) false l.marks
-
-abbrev pub decreases-loop-i : goal.decreases-loop-i
-decreases-loop-i l = l.high - l.i
+invariant-loop-i l = Marks l.initial.marks (between l.low l.i) false l.marks

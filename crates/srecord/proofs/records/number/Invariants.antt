@@ -1,16 +1,8 @@
--- `number` has in n what the first i of the k bytes make.
+-- `number` has in n what the first i of the bytes make.
 -- Assumes nothing.
-use Rattle.std.proofs.Common.{◌≡◌, ℕ, ◌-◌, ◌^◌, ◌<◌, ◌≤◌, List}
-use mathlib.Core.Option.{some}
-use Rattle.memory.specs.Access.{value_at}
-use Rattle.srecord.specs.Records.{bytes_of}
+use Rattle.std.proofs.Common.{◌^◌, ◌<◌}
+use Rattle.srecord.proofs.Pairs.{SoFar}
 use Rattle.srecord.proofs.records.number.Given as goal
 
-abbrev pub invariant-loop-i : goal.invariant-loop-i
-invariant-loop-i l =
-    (l.i ≤ l.k)
-    × ((bytes : List ℕ) → bytes_of l.digits ≡ some bytes → l.n ≡ value_at l.i bytes l.at)
-    × (l.n < 256 ^ l.i)
-
-abbrev pub decreases-loop-i : goal.decreases-loop-i
-decreases-loop-i l = l.k - l.i
+abbrev pub invariant-loop-pair : goal.invariant-loop-pair
+invariant-loop-pair l = SoFar l.pairs l.pair-index l.n × (l.n < 256 ^ l.pair-index)

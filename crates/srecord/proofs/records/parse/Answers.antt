@@ -1,19 +1,32 @@
--- `parse` finds the line's end, and reads what stands before it.
+-- `parse` finds the line's end, its opening, and reads the digits behind it.
 -- Assumes nothing.
-use Rattle.std.proofs.Common.{◌≡◌, take, ◌∙◌}
-use mathlib.Core.Option.{none, some}
-use Rattle.srecord.specs.Lines.{content}
+use Rattle.std.proofs.Common.{◌≤◌, length, rules}
 use Rattle.srecord.specs.Records.{record_of}
+use Rattle.srecord.proofs.Placement.{whole}
+use Rattle.srecord.proofs.Starts.{long_enough, narrow}
 use Rattle.srecord.proofs.records.parse.Goals as goal
 
-pub returns-in-At : goal.returns-in-At
+pub returns-in_err-line : goal.returns-in_err-line
 unfolding record_of
-returns-in-At c =
-    let before_end : some (take c.in-At.e c.args.line.now) ≡ content c.args.line.now = c.in-At.ensures.same in
-    c.opened.ensures ∙ rw (← before_end)
+returns-in_err-line c = rw (c.from_residual.ensures, ← c.in_err-line.ensures)
 
-pub returns-in-Missing : goal.returns-in-Missing
+pub returns-in_err-opening : goal.returns-in_err-opening
 unfolding record_of
-returns-in-Missing c =
-    let no_end : none ≡ content c.args.line.now = c.in-Missing.ensures.same in
-    rw (← no_end)
+returns-in_err-opening c = rw (c.from_residual-in_err-opening.ensures, ← c.in_ok-line.ensures, ← c.in_err-opening.ensures)
+
+pub slice_bounds-with_bytes-count : goal.slice_bounds-with_bytes-count
+slice_bounds-with_bytes-count c = long_enough c.in_ok-line.line.now c.in_ok-opening.ensures
+
+pub slice_bounds-with_bytes-start : goal.slice_bounds-with_bytes-start
+slice_bounds-with_bytes-start c =
+    let long : 2 ≤ length c.in_ok-line.line.now = long_enough c.in_ok-line.line.now c.in_ok-opening.ensures in
+    search rules
+
+pub with_bytes-requires : goal.with_bytes-requires
+with_bytes-requires c = narrow c.in_ok-line.line.now c.in_ok-opening.ensures
+
+pub returns : goal.returns
+unfolding record_of
+returns c =
+    let line = c.in_ok-line.line.now in
+    rw (c.with_bytes.ensures, whole line, ← c.in_ok-line.ensures, ← c.in_ok-opening.ensures)

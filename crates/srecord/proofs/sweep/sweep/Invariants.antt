@@ -1,16 +1,13 @@
--- What `sweep` finds of the lines from `at` on, with what it knows of those before, is what it finds of all.
+-- What `sweep` finds of the lines that are left, with what it knows of those before, is what it finds of all.
 -- Assumes nothing.
-use Rattle.std.proofs.Common.{◌≡◌, ◌-◌, ◌≤◌, length, drop}
+use Rattle.std.proofs.Common.{◌≡◌, ◌+◌, ◌≤◌, length}
 use Rattle.srecord.specs.Load.{records}
 use Rattle.srecord.specs.Promises.{fresh, swept}
 use Rattle.srecord.proofs.sweep.sweep.Given as goal
 
-abbrev pub invariant-loop-at : goal.invariant-loop-at
-invariant-loop-at l =
-    (l.at ≤ length l.text)
-    × (l.n ≤ l.at)
+abbrev pub invariant-loop-line : goal.invariant-loop-line
+invariant-loop-line l =
+    let rest = l.line-iterator.rest.now in
+    (l.n + length rest ≤ length l.text)
     × (l.s.count ≤ l.n)
-    × (swept l.size 0 fresh (records l.text) ≡ swept l.size l.n l.s (records (drop l.at l.text)))
-
-abbrev pub decreases-loop-at : goal.decreases-loop-at
-decreases-loop-at l = length l.text - l.at
+    × (swept l.size 0 fresh (records l.text) ≡ swept l.size l.n l.s (records rest))

@@ -2,11 +2,11 @@
 -- Assumes nothing.
 use Rattle.std.proofs.Common.{◌-◌}
 use Rattle.srecord.specs.Load.{records}
-use Rattle.srecord.specs.Promises.{FirstAgain}
+use Rattle.srecord.specs.Promises.{Finds}
 use Rattle.srecord.proofs.twice.first_again.Given as goal
 
 abbrev pub invariant-loop-low : goal.invariant-loop-low
-invariant-loop-low l = FirstAgain (records l.text) l.limit 0 l.low l.first
+invariant-loop-low l = Finds (records l.text) l.limit 0 l.low l.first
 
 abbrev pub decreases-loop-low : goal.decreases-loop-low
 decreases-loop-low l = l.size - l.low
