@@ -4,9 +4,6 @@
 
 use std::io;
 
-// The row number of a word that no row has.
-const UNDEFINED: u8 = PATTERNS.len() as u8;
-
 const PATTERNS: [&str; 142] = [
     "0111nnnniiiiiiii",
     "0011nnnnmmmm1100",
@@ -154,16 +151,16 @@ const PATTERNS: [&str; 142] = [
 
 fn main(rt: HostRuntime) -> io::Result<()> {
     let mut defined: usize = 0;
-    for (pattern, row) in PATTERNS.iter().zip(0..UNDEFINED) {
-        let count = count_of(row);
-        print_row(&rt, pattern, row, count)?;
+    for (pattern, row) in PATTERNS.iter().zip(0..PATTERNS.len() as u8) {
+        let count = count_of(Some(row));
+        print_row(&rt, pattern, Some(row), count)?;
         defined = defined.wrapping_add(count);
     }
     println!(rt; "defined {defined}")?;
-    println!(rt; "undefined {}", count_of(UNDEFINED))
+    println!(rt; "undefined {}", count_of(None))
 }
 
-fn print_row(rt: &impl Print, pattern: &str, row: u8, count: usize) -> io::Result<()> {
+fn print_row(rt: &impl Print, pattern: &str, row: Option<u8>, count: usize) -> io::Result<()> {
     print!(rt; "{pattern} {count}")?;
     let first = (0..=u16::MAX).find(|word| row_of(*word) == row);
     let last = (0..=u16::MAX).rfind(|word| row_of(*word) == row);
@@ -173,10 +170,10 @@ fn print_row(rt: &impl Print, pattern: &str, row: u8, count: usize) -> io::Resul
     println!(rt)
 }
 
-fn count_of(row: u8) -> usize {
+fn count_of(row: Option<u8>) -> usize {
     (0..=u16::MAX).filter(|word| row_of(*word) == row).count()
 }
 
-fn row_of(word: u16) -> u8 {
+fn row_of(word: u16) -> Option<u8> {
     rows::row_number(decoder::decode(word))
 }

@@ -8,10 +8,11 @@ use Prim.Native.Nat.{ℕ}
 use lib.ListN.{length}
 use Rattle.memory.specs.Lengths.{refused_length}
 use Rattle.srecord.specs.Load.{Verdict, placed, records, told, verdict_on}
-use Rattle.srecord.specs.declared.Refused.{Refused}
+use Rattle.srecord.specs.declared.Refused.{Refused as TextRefused}
 use Rattle.srecord.proofs.Loading.{length_after, lines_accepted}
 use Rattle.machine.specs.declared.Answer.{Answer}
 use Rattle.machine.specs.declared.Machine.{Machine}
+use Rattle.machine.specs.declared.Refused.{Refused}
 use Rattle.machine.specs.Calls.{Called, Resets, Runs, blank, called, calling, reset_by, run_call, start}
 use Rattle.machine.specs.Run.{run, still}
 use Rattle.machine.specs.Situation.{machine_of, over}
@@ -23,11 +24,12 @@ module _ (image : List ℕ) (fits : refused_length (length image) ≡ 0) where
   first = start blank image
 
   reset_accepted :
-      (started : Answer) → Resets image started → called started image ≡ record { refusal = 0; ran = still (over first image) }
+      (started : Result Answer Refused) → Resets image started → called started image ≡ record { refusal = 0; ran = still (over first image) }
   reset_accepted started resets = resets ∙ ap (λ (number : ℕ). reset_by number image) fits
 
   run_accepted :
-      (budget : ℕ) (started ran : Answer) (after : List ℕ) → Resets image started → Runs budget started.machine image ran after →
+      (budget : ℕ) (started ran : Result Answer Refused) (after : List ℕ) → Resets image started →
+      Runs budget (machine_of (called started image).ran.after) image ran after →
       called ran after ≡ record { refusal = 0; ran = run budget (over first image) }
   run_accepted budget started ran after resets runs =
       runs
@@ -41,7 +43,7 @@ module _ {text memory : List ℕ} {budget : ℕ} (a : Answers text memory budget
   image_fits : refused_length (length a.image) ≡ 0
   image_fits = rw (a.loads.leaves, length_after text memory) (lines_accepted text memory taken).0
 
-accepted_told : (answer : Result ⊤ Refused) → IsOk answer → (told answer).number ≡ 0
+accepted_told : (answer : Result ⊤ TextRefused) → IsOk answer → (told answer).number ≡ 0
 accepted_told (Ok done) e = refl
 accepted_told (Err refused) e = absurd (false≢true e)
 
