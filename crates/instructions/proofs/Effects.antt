@@ -241,10 +241,6 @@ attempt_changes_nothing slot x pc s = (attempts slot x pc s).unchanged
 pub no_branch_in_slot : (x : Meaning) (pc : ℕ) (s : State) → Straight (attempted true x pc s).flow
 no_branch_in_slot x pc s = (attempts true x pc s).allowed
 
--- No instruction writes the PC.
-pub pc_stays : (x : Meaning) (pc : ℕ) (s : State) → (execute x pc s).after.control.pc ≡ s.control.pc
-pc_stays x pc s = (orderly x pc s).pc
-
 pub attempt_keeps_pc : (slot : Bool) (x : Meaning) (pc : ℕ) (s : State) → (attempted slot x pc s).after.control.pc ≡ s.control.pc
 attempt_keeps_pc slot x pc s = (attempts slot x pc s).pc
 

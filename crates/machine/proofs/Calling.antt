@@ -7,10 +7,10 @@ use borrow.Author.Tests.{not-false}
 use Rattle.instructions.specs.State.{masked}
 use Rattle.memory.specs.Access.{accessible}
 use Rattle.memory.specs.Lengths.{Test, first, length_tests, refused_length, test}
-use Rattle.memory.proofs.Acceptance.{accepted_size, none_before, same_before}
-use Rattle.machine.specs.Calls.{Called, Resets, Runs, Steps, called, calling, refusal_number, refused, run_call, step_call}
+use Rattle.memory.proofs.Acceptance.{accepted_size, none_before}
+use Rattle.machine.specs.Calls.{Called, Resets, Runs, Steps, called, refusal_number, refused, run_call, step_call}
 use Rattle.machine.specs.Situation.{Situation, machine_of, over}
-use Rattle.machine.specs.Run.{Ran, one_more, run, still, stepped}
+use Rattle.machine.specs.Run.{one_more, run, still, stepped}
 use Rattle.machine.specs.Step.{halted, step}
 use Rattle.machine.specs.declared.Answer.{Answer}
 use Rattle.machine.specs.declared.Machine.{Machine}
@@ -24,28 +24,12 @@ refuses Ragged e = omega arith
 refuses Size e = omega arith
 refuses Status e = omega arith
 
-turned_away :
-    (why : Refusal) (done : Ran) (m : Machine) (memory : List ℕ) →
-    called (Err (record { refusal = why; machine = m })) memory ≡ calling (refusal_number why) done (over m memory)
-turned_away Ragged done m memory = refl
-turned_away Size done m memory = refl
-turned_away Status done m memory = refl
-
-pub call_refused :
-    (why : Refusal) {number : ℕ} (done : Ran) (m : Machine) (memory : List ℕ) → refusal_number why ≡ number →
-    called (Err (record { refusal = why; machine = m })) memory ≡ calling number done (over m memory)
-call_refused why done m memory e = rw (sym e) (turned_away why done m memory)
-
 module _ (m : Machine) (memory : List ℕ) where
   abbrev unmasked : Bool
   unmasked = not (eqb (masked m.control.sr) m.control.sr)
 
   abbrev status : List Test
   status = test 3 unmasked ∷ []
-
-  pub length_refused :
-      (why : Refusal) → refusal_number why ≡ refused_length (length memory) → refusal_number why ≡ refused m memory
-  length_refused why e = e ∙ sym (same_before (length_tests (length memory)) status (λ none. refuses why (e ∙ none)))
 
   status_left : refused_length (length memory) ≡ 0 → first status ≡ refused m memory
   status_left e = go (not (eqb (length memory % 4) 0)) (ltb (length memory) 1024 || ltb 16777216 (length memory)) e
@@ -70,9 +54,6 @@ module _ (m : Machine) (memory : List ℕ) where
 
   pub accepted : refused_length (length memory) ≡ 0 → masked m.control.sr ≡ m.control.sr → refused m memory ≡ 0
   accepted e passes = sym (status_left e) ∙ ap (λ (passed : Bool). first (test 3 (not passed) ∷ [])) (eq-eqb _ _ passes)
-
-  pub status_refused : refused_length (length memory) ≡ 0 → (masked m.control.sr ≡ m.control.sr → ⊥) → 3 ≡ refused m memory
-  status_refused e fails = ap (λ (passed : Bool). first (test 3 (not passed) ∷ [])) (sym (ne_eqb _ _ fails)) ∙ status_left e
 
 -- The two longs of a reset lie inside.
 pub accepted_opens :

@@ -7,28 +7,16 @@ use Rattle.decoder.specs.Code.{meaning}
 use Rattle.decoder.specs.declared.meaning.Meaning.{Meaning}
 use Rattle.instructions.specs.Execute.{attempted}
 use Rattle.instructions.specs.Shapes.{Effect, leads}
-use Rattle.instructions.specs.State.{State, changed, with_pc}
+use Rattle.instructions.specs.State.{State}
 use Rattle.instructions.specs.declared.control.Flow.{Flow}
 use Rattle.instructions.specs.declared.control.Flow.TheVariants.{Next, Jump, Delay, Sleep, Trap, Fault, Illegal}
 use Rattle.instructions.proofs.Effects.{Unchanged, Straight, attempt_changes_nothing, attempt_keeps_pc, no_branch_in_slot}
 use Rattle.machine.specs.Situation.{at}
 use Rattle.machine.specs.Exceptions.{address_error, raise, saved_pc}
 use Rattle.machine.specs.Promises.{Admits}
-use Rattle.machine.specs.Step.{asleep_or_stopped, in_slot, next_pc, settle, step, pc_of}
+use Rattle.machine.specs.Step.{asleep_or_stopped, in_slot, settle, step, pc_of}
 use Rattle.machine.specs.declared.Mode.{Mode}
 use Rattle.machine.specs.declared.Mode.TheVariants.{Running, Slot, Asleep, Stopped}
-
-delays : (mode : Mode) (target : ℕ) (s : State) → Admits mode (Delay target) →
-    settle (Delay target) mode s s ≡ at (Slot target) (changed (with_pc (next_pc mode s)) s)
-delays Running target s admitted = refl
-delays (Slot waiting) target s admitted = absurd admitted
-delays Asleep target s admitted = absurd admitted
-delays (Stopped reason) target s admitted = absurd admitted
-
-pub delays_on :
-    (mode : Mode) (flow : Flow) (target : ℕ) (s : State) → flow ≡ Delay target → Admits mode flow →
-    settle flow mode s s ≡ at (Slot target) (changed (with_pc (next_pc mode s)) s)
-delays_on mode flow target s e admitted = rw e (delays mode target s (rw (sym e) admitted))
 
 settled :
     (flow : Flow) (mode : Mode) (before after : State) → Unchanged flow before after → after.control.pc ≡ before.control.pc →

@@ -3,7 +3,7 @@
 use Rattle.std.proofs.Common.{◌≡◌, ℕ, ◌+◌, ◌*◌, ◌/◌, ◌%◌, ◌<◌, ◌≤◌, Bool, true, false, cond, not, ◌||◌, eqb, ltb, List, [], ◌∷◌, ◌++◌, length, drop, sym, refl, ap, ◌∙◌, add_assoc, zero-add, length-append, ltb-false, le-ltb, lt-ltb, eq-eqb, ne_eqb, Result, Ok, Err, IfOk}
 use lib.Seq.{sets, sets-eq}
 use Rattle.memory.specs.Lengths.{first, length_tests, refused_length, test}
-use Rattle.memory.proofs.Acceptance.{none_before, same_before}
+use Rattle.memory.proofs.Acceptance.{none_before}
 use Rattle.srecord.specs.Export.{Exports, exported, refused_export}
 use Rattle.srecord.specs.Promises.{Places}
 use Rattle.srecord.specs.Load.{number_of, refusal_number}
@@ -24,9 +24,6 @@ then_placed x y b at {m} {a} {e} {f} first second =
 module _ (memory buffer : List ℕ) where
   abbrev short : Bool
   short = ltb (length buffer) (length (exported memory))
-
-  pub length_refuses : {k : ℕ} → k ≡ refused_length (length memory) → (k ≡ 0 → ⊥) → k ≡ refused_export memory buffer
-  length_refuses e given = e ∙ sym (same_before (length_tests (length memory)) (test 16 short ∷ []) (λ none_given. given (e ∙ none_given)))
 
   pub length_accepted : refused_export memory buffer ≡ 0 → refused_length (length memory) ≡ 0
   length_accepted e = none_before (length_tests (length memory)) (test 16 short ∷ []) e

@@ -1,11 +1,9 @@
 -- Laws of bytes read from pairs of digits.
 -- Assumes nothing.
-use Rattle.std.proofs.Common.{◌≡◌, ℕ, zero, suc, ◌+◌, ◌-◌, ◌*◌, ◌/◌, ◌%◌, ◌^◌, ◌<◌, ◌≤◌, Bool, true, false, ◌&&◌, ltb, List, [], ◌∷◌, length, get_or, drop, take, sym, refl, ap, ◌∙◌, not-suc-le-zero, pow-suc, add-one, arith, length-take, get_or-drop, get_or-take, drop-cons, ltb-false, ltb-true, Option, None, Some}
+use Rattle.std.proofs.Common.{◌≡◌, ℕ, zero, suc, ◌+◌, ◌-◌, ◌*◌, ◌/◌, ◌%◌, ◌^◌, ◌<◌, ◌≤◌, Bool, true, false, ◌&&◌, List, [], ◌∷◌, length, get_or, drop, take, sym, refl, ap, ◌∙◌, not-suc-le-zero, pow-suc, add-one, arith, length-take, get_or-drop, get_or-take, drop-cons, Option, None, Some}
 use native.Mathlib.Nat.{pow-le-pow_right}
-use lib.ListN.{get_or-eq_default}
 use lib.Seq.{drop-length}
 use Rattle.memory.specs.Access.{value_at}
-use Rattle.memory.proofs.Bytes.{Bytes}
 use Rattle.text.specs.Reading.{digit_value, read_on, value}
 use Rattle.text.specs.declared.reading.Letters.TheVariants.{EitherCase}
 use Rattle.text.proofs.Values.{ValueOfDigit, digit_small}
@@ -107,13 +105,6 @@ module _ (a b : ℕ) where
       let small = pair_small n e in
       omega (arith, v.4, high v.0 v.2, low v.1 v.3)
 
-pub bytes_small : (digits bytes : List ℕ) → bytes_of digits ≡ Some bytes → Bytes bytes
-bytes_small digits bytes e i = go (ltb i (length bytes)) refl
-  where
-    go : (t : Bool) → ltb i (length bytes) ≡ t → get_or bytes i 0 < 256
-    go true inside = pair_small _ _ (get_or bytes i 0) (pair_of digits bytes e i (ltb-true i (length bytes) inside))
-    go false outside = rw (get_or-eq_default bytes 0 (ltb-false i (length bytes) outside)) (omega arith)
-
 -- The low byte of the sum, where there are bytes.
 abbrev pub total_of : Option (List ℕ) → Option ℕ
 total_of x = option_map (λ bytes. sum bytes % 256) x
@@ -133,11 +124,6 @@ module _ (digits : List ℕ) (s i : ℕ) (good : Bool) (done : 2 * i ≡ length 
       good ≡ true → with_rest good s (bytes_of (drop (2 * i) digits)) ≡ total_of (bytes_of digits) → Some (s % 256) ≡ total_of (bytes_of digits)
   unfolding bytes_of
   ends_good e inv = ap Some (omega arith) ∙ rw (e, none_left) at inv
-
-  pub ends_bad :
-      good ≡ false → with_rest good s (bytes_of (drop (2 * i) digits)) ≡ total_of (bytes_of digits) → None ≡ total_of (bytes_of digits)
-  unfolding bytes_of
-  ends_bad e inv = rw (e, none_left) at inv
 
 pub one_pair :
     (a b : ℕ) (rest : List ℕ) {h l : ℕ} → ValueOfDigit a h → ValueOfDigit b l → (good : Bool) (s : ℕ) →

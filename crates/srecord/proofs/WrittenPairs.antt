@@ -1,19 +1,11 @@
 -- Laws of pairs of digits and of sums, byte by byte, and of texts placed one behind the other.
 -- Assumes nothing.
-use Rattle.std.proofs.Common.{◌≡◌, ℕ, suc, ◌+◌, ◌*◌, ◌/◌, ◌%◌, ◌<◌, ◌≤◌, Bool, true, false, ltb, List, [], ◌∷◌, ◌++◌, length, get_or, drop, set, sym, refl, ap, ◌∙◌, append_assoc, add-zero, add_assoc, add-suc, mod-eq_of_lt, suc-add, zero-add, add-one, arith, drop_of_length-le, drop-cons, ltb-false, ltb-true}
+use Rattle.std.proofs.Common.{◌≡◌, ℕ, suc, ◌+◌, ◌*◌, ◌/◌, ◌%◌, ◌<◌, ◌≤◌, List, [], ◌∷◌, ◌++◌, length, get_or, drop, set, sym, refl, ap, ◌∙◌, append_assoc, add-zero, add_assoc, add-suc, mod-eq_of_lt, suc-add, zero-add, add-one, arith, drop_of_length-le, drop-cons}
 use lib.Seq.{sets}
 use Rattle.text.specs.Text.{digit, hex_in}
 use Rattle.text.specs.declared.digits.Case.TheVariants.{Upper}
 use Rattle.srecord.specs.Export.{pairs}
 use Rattle.srecord.specs.Load.{sum}
-
--- A digit's character without a test.
-pub by_sum : (d : ℕ) → d < 16 → 48 + d + (d + 6) / 16 * 7 ≡ digit Upper d
-by_sum d h = go (ltb d 10) refl
-  where
-    go : (t : Bool) → ltb d 10 ≡ t → 48 + d + (d + 6) / 16 * 7 ≡ digit Upper d
-    go true e = rw e (omega (arith, ltb-true d 10 e))
-    go false e = rw e (omega (arith, ltb-false d 10 e))
 
 -- A byte's digits, and those of the bytes behind it.
 pub pairs_next :
@@ -30,12 +22,6 @@ pairs_next bytes b at i inside small eh el =
 pub pairs_past : (bytes b : List ℕ) (at i : ℕ) → length bytes ≤ i → b ≡ sets b (at + 2 * i) (pairs (drop i bytes))
 unfolding pairs
 pairs_past bytes b at i over = rw (drop_of_length-le bytes over)
-
-pub sum_next : (bytes : List ℕ) (i : ℕ) → i < length bytes → sum (drop i bytes) ≡ get_or bytes i 0 + sum (drop (i + 1) bytes)
-sum_next bytes i inside = rw (drop-cons bytes i 0 inside, add-one i)
-
-pub sum_past : (bytes : List ℕ) (i : ℕ) → length bytes ≤ i → sum (drop i bytes) ≡ 0
-sum_past bytes i over = rw (drop_of_length-le bytes over)
 
 pub sum_append : (x y : List ℕ) → sum (x ++ y) ≡ sum x + sum y
 sum_append [] y = sym (zero-add (sum y))
