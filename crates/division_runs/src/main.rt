@@ -38,6 +38,9 @@ const CASES: [(u32, u32, u32); 28] = [
     (0x0, 0x15180, 0xe10),
 ];
 
+// How many runs each cut has: budgets of 0 follow those that it names.
+const RUNS: usize = 66;
+
 // The budgets of each cut: one run of 66; 66 runs of 1; 1 and 65; uneven ones.
 const CUTS: [&[u32]; 4] = [&[66], &[1; 66], &[1, 65], &UNEVEN];
 
@@ -100,7 +103,7 @@ fn divide(before: Machine, image: &mut [u8], budgets: &[u32]) -> Result<Answer, 
         machine: before,
         steps: 0,
     };
-    for budget in budgets {
+    for budget in budgets.iter().chain([0; RUNS].iter()).take(RUNS) {
         let answer = machine::run(sum.machine, image, *budget)?;
         sum = Answer {
             steps: sum.steps.saturating_add(answer.steps),

@@ -1,25 +1,17 @@
 // Reads an image on standard input, as the runner does, and writes it as S-records; or says why it is refused.
 #![tactic(auto)]
 
-ghost use Rattle.std.specs.Prelude.{◌≡◌, length};
-
 use srecord::Refusal;
 use std::io;
 
 // The longest image (document 01, "The runner").
 const LONGEST: usize = 65536;
 
-// Room for the text of the longest image.
-fn room() -> [u8; 192527]
-    ensures { 192527 ≡ length result }
-{
-    [0; 192527]
-}
-
 fn main(rt: HostRuntime) -> io::Result<()> {
     // One byte more than the longest image, to see that there is more.
     let mut image = [0u8; 65537];
-    let mut text = room();
+    // Room for the text of the longest image.
+    let mut text = [0u8; 192527];
     let length = input::read_full(&mut rt.stdin(), &mut image);
     print_text(&rt, &image[..length], &mut text)
 }

@@ -57,10 +57,8 @@ pub fn first_again(text: &[u8], size: usize, limit: usize) -> Option<usize>
     ensures { Finds (records text.now) limit 0 size result }
 {
     let mut first = None;
-    let mut low = 0;
-    while low < size {
+    for low in (0..size).step_by(WINDOW) {
         first = again_in(text, first.unwrap_or(limit), low).or(first);
-        low += WINDOW;
     }
     first
 }

@@ -1,12 +1,8 @@
 -- `first_again` has the first line that writes again an address below `low`, and goes on window by window.
 -- Assumes nothing.
-use Rattle.std.proofs.Common.{◌-◌}
 use Rattle.srecord.specs.Load.{records}
 use Rattle.srecord.specs.Promises.{Finds}
 use Rattle.srecord.proofs.twice.first_again.Given as goal
 
 abbrev pub invariant-loop-low : goal.invariant-loop-low
 invariant-loop-low l = Finds (records l.text) l.limit 0 l.low l.first
-
-abbrev pub decreases-loop-low : goal.decreases-loop-low
-decreases-loop-low l = l.size - l.low
