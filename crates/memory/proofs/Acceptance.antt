@@ -1,6 +1,6 @@
 -- Which lengths are refused, and what an accepted one is: document 01's five lengths, computed, and the bounds.
 -- Assumes nothing.
-use mathlib.Core.Path.{◌≡◌, refl}
+use mathlib.Core.Path.{◌≡◌, refl, ◌∙◌}
 use mathlib.Core.Bool.{Bool, true, false, ◌||◌, cond, not}
 use mathlib.Core.List.{List, [], ◌∷◌, ◌++◌, map}
 use Prim.Native.Nat.{ℕ, ◌%◌, ◌≤◌}
@@ -46,3 +46,15 @@ pub accepted_size : (length : ℕ) → refused_length length ≡ 0 → (1024 ≤
 accepted_size length e =
     let within = neither (not (eqb (length % 4) 0)) (ltb length 1024) (ltb 16777216 length) e in
     (ltb-false length 1024 within.0, ltb-false 16777216 length within.1)
+
+-- A length refused for another reason than 1 is refused for reason 2.
+pub size_left : (length : ℕ) {k : ℕ} → k ≡ refused_length length → (k ≡ 0 → ⊥) → (k ≡ 1 → ⊥) → 2 ≡ refused_length length
+size_left length e some other =
+    go (not (eqb (length % 4) 0)) (ltb length 1024 || ltb 16777216 length) (λ none. some (e ∙ none)) (λ one. other (e ∙ one))
+  where
+    go :
+        (ragged missized : Bool) → (first (test 1 ragged ∷ test 2 missized ∷ []) ≡ 0 → ⊥) →
+        (first (test 1 ragged ∷ test 2 missized ∷ []) ≡ 1 → ⊥) → 2 ≡ first (test 1 ragged ∷ test 2 missized ∷ [])
+    go true missized some other = absurd (other refl)
+    go false true some other = refl
+    go false false some other = absurd (some refl)

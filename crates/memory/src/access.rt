@@ -1,12 +1,15 @@
 // An access of 1, 2 or 4 bytes (document 01, "Memory"): what is true of every size stands once.
-ghost use Rattle.std.specs.Prelude.{◌≡◌, ◌+◌, ◌%◌, ◌≤◌, ℕ, bit_and, length};
-ghost use Rattle.memory.specs.Access.{accessible, loaded, value_at, written, Stores};
+ghost use Rattle.std.specs.Prelude.{◌≡◌, ◌%◌, ℕ, bit_and};
+ghost use Rattle.memory.specs.Access.{accessible, loaded, Stores};
+
+use crate::width::Width;
 
 // Why a load gives no value and a store changes nothing: the address is misaligned, or a byte lies outside.
 #[derive(Clone, Copy, Debug, PartialEq, Eq)]
 pub struct Fault;
 
-pub trait Access {
+// A load and a store of any size.
+pub trait Access: Width {
     const BYTES: u32;
 
     // The bits that are zero in an aligned address.
@@ -16,16 +19,9 @@ pub trait Access {
 
     ghost ALIGNMENT_MASK: { ℕ };
 
-    // The number that the bytes at a place make. It is not extended: a byte is below H'100, a word below H'10000.
-    fn read(memory: &[u8], at: usize) -> u32
-        requires { at + BYTES ≤ length memory.now }
-        ensures { result ≡ value_at BYTES memory.now at };
+    ghost as_wide: { Self.width ≡ BYTES };
 
-    fn write(memory: &mut [u8], at: usize, value: u32)
-        requires { at + BYTES ≤ length memory.old }
-        ensures { memory.new ≡ written BYTES memory.old at value };
-
-    ghost mask_tells_multiples: { (address : ℕ) → bit_and address ALIGNMENT_MASK ≡ address % BYTES };
+    ghost mask_tells_multiples: { (address : ℕ) → bit_and address ALIGNMENT_MASK ≡ address % Self.width };
 
     #[tactic(auto, unfolding(crate::specs::Access::accessible))]
     final fn accessible(memory: &[u8], address: u32) -> bool

@@ -8,6 +8,7 @@ mod access;
 mod byte;
 mod lengths;
 mod long;
+mod width;
 mod word;
 
 pub use access::{Access, Fault};

@@ -1,6 +1,8 @@
 // An access of four bytes, at a multiple of 4 (document 01, "Memory").
+ghost use Rattle.std.specs.Prelude.{refl};
 ghost use lib.Bits.{and_mask};
 
+use crate::width::Width;
 use crate::{Access, read_byte, write_byte};
 
 #[derive(Clone, Copy)]
@@ -15,7 +17,13 @@ impl Access for Long {
 
     ghost ALIGNMENT_MASK = { 3 };
 
+    ghost as_wide = { refl };
+
     ghost mask_tells_multiples = { λ address. and_mask address 2 };
+}
+
+impl Width for Long {
+    ghost width = { 4 };
 
     #[tactic(auto, unfolding(crate::specs::Access::value_at))]
     fn read(memory: &[u8], at: usize) -> u32 {
