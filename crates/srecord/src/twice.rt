@@ -9,10 +9,13 @@ use crate::records::Summary;
 use crate::{marks, records};
 
 // Marks the addresses that a line's data go to from `low` on, and answers whether one was marked already.
-fn mark_data(marks: &mut Marks, low: usize, r: Summary) -> bool
+fn mark_line(marks: &mut Marks, low: usize, line: Option<Summary>) -> bool
     requires { low ≤ 16777216 }
-    ensures { Promises.Marks marks.old (writes_in low (Some r)) result marks.new }
+    ensures { Promises.Marks marks.old (writes_in low line) result marks.new }
 {
+    let Some(r) = line else {
+        return false;
+    };
     let begin = r.address as usize;
     let end = begin + r.length as usize;
     if end <= low || low + WINDOW <= begin {
@@ -21,16 +24,6 @@ fn mark_data(marks: &mut Marks, low: usize, r: Summary) -> bool
     let from = begin.saturating_sub(low);
     let to = (end - low).min(WINDOW);
     marks::mark(marks, from, to)
-}
-
-fn mark_line(marks: &mut Marks, low: usize, line: Option<Summary>) -> bool
-    requires { low ≤ 16777216 }
-    ensures { Promises.Marks marks.old (writes_in low line) result marks.new }
-{
-    match line {
-        Some(r) => mark_data(marks, low, r),
-        None => false,
-    }
 }
 
 // The first of `limit` lines that writes again an address in the window at `low`.
