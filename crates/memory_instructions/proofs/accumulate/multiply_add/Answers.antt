@@ -4,7 +4,6 @@ use Rattle.std.proofs.Common.{◌≡◌, ◌∙◌, ◌%◌, ℕ, List, ap, get_
 use lib.Seq.{set-get_or}
 use Rattle.arithmetic.specs.Addresses.{following}
 use Rattle.instructions.specs.Promises.{state}
-use Rattle.instructions.specs.State.{with_mac, with_sr}
 use Rattle.instructions.specs.Shapes.{leads}
 use Rattle.instructions.specs.declared.control.Flow.TheVariants.{Fault}
 use Rattle.instructions.proofs.Families.{multiply_add}
@@ -17,9 +16,8 @@ set_back xs i x = sym (set-set xs i x (get_or xs i 0) ∙ set-get_or xs i 0)
 
 pub returns-in_default-operand : goal.returns-in_default-operand
 returns-in_default-operand c =
-    λ k.
     let a = c.args in
-    let s = state a.r.now (with_sr a.sr (with_mac a.mach.now a.macl.now k)) a.memory.now in
+    let s = state a.r.now a.control.now a.memory.now in
     let faulted = rw (c.in_default-operand.is, c.operand_bytes-k.ensures) at c.operand-2.ensures in
     rw (
       multiply_add a.operation a.m a.n (following s.control.pc) s,

@@ -2,11 +2,10 @@
 -- Assumes nothing.
 use mathlib.Core.Path.{refl}
 use Rattle.instructions.specs.Promises.{state}
-use Rattle.instructions.specs.State.{with_sr}
 use Rattle.register_instructions.proofs.registers.compare_zero.Goals as goal
 
 pub returns : goal.returns
 returns c =
-    λ memory k.
+    λ memory.
     let a = c.args in
-    rw c.with_t.ensures ((c.of_compare_zero.ensures _).1 0 a.n _ (state a.r.now (with_sr a.sr.now k) memory) refl refl)
+    rw c.with_t-control.ensures ((c.of_compare_zero.ensures _).1 0 a.n _ (state a.r.now a.control.now memory) refl refl)

@@ -2,12 +2,11 @@
 -- Assumes nothing.
 use mathlib.Core.Path.{refl}
 use Rattle.instructions.specs.Promises.{state}
-use Rattle.instructions.specs.State.{with_sr}
 use native.Mathlib.Omega.{arith}
 use Rattle.register_instructions.proofs.registers.one_register.Goals as goal
 
 pub returns : goal.returns
 returns c =
-    λ memory k.
+    λ memory.
     let a = c.args in
-    rw c.with_t.ensures ((c.of_one_register-w.ensures _ (omega arith)).1 0 a.n _ (state a.r.now (with_sr a.sr.now k) memory) refl refl refl)
+    rw c.with_t-control.ensures ((c.of_one_register-w.ensures _ (omega arith)).1 0 a.n _ (state a.r.now a.control.now memory) refl refl refl)
