@@ -50,7 +50,7 @@ pub fn attempt(
             registers::multiply(op, m, n, control, r);
             Flow::Next
         }
-        Meaning::MultiplyAdd(op, m, n) => { accumulate::multiply_add(op, m, n, control, r, memory) }
+        Meaning::MultiplyAdd(op, m, n) => accumulate::multiply_add(op, m, n, control, r, memory),
         Meaning::Immediate(op, i, n) => {
             registers::immediate(op, i, n, r);
             Flow::Next

@@ -1,4 +1,4 @@
-// The instructions that work on registers alone (document 000, chapter 6), a function for each shape. Each is lent what it may change.
+// The instructions that work on registers alone (document 000, chapter 6), a function for each shape.
 ghost use Rattle.std.specs.Prelude.{List, ℕ};
 ghost use Rattle.instructions.specs.Promises.{Performs};
 
