@@ -13,7 +13,7 @@ use register_instructions::registers;
 
 // Nothing stands between the decoder and this match, so that the compiler can lead each word of the code table straight to its shape.
 // The PC is only read: what settles a step moves it.
-#[tactic(auto, using(crate::proofs::Slots::anywhere, decoder::proofs::Rewriting::rewrites), unfolding(instructions::specs::Execute::execute))]
+#[tactic(auto, using(decoder::proofs::Rewriting::rewrites), unfolding(instructions::specs::Execute::attempted, instructions::specs::Execute::execute))]
 pub fn attempt(
     meaning: Meaning,
     slot: bool,

@@ -9,7 +9,7 @@ use instructions::{Control, Flow};
 use memory::{Access, Long, Word};
 use multiply::Mac;
 
-#[tactic(auto, unfolding(instructions::specs::Execute::execute))]
+#[tactic(auto, using(crate::proofs::Registers::set_back), unfolding(instructions::specs::Execute::execute))]
 pub fn multiply_add(
     operation: MultiplyAdd,
     m: u8,

@@ -7,6 +7,7 @@ use decoder::{Address, Meaning, Relative, Size};
 use instructions::{Control, Flow};
 use memory::{Access, Long, Word};
 
+#[tactic(auto, using(instructions::proofs::Families::load))]
 pub fn load(
     size: Size,
     address: Address,

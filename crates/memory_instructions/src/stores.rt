@@ -6,6 +6,7 @@ use arithmetic::sums;
 use decoder::{Address, Meaning, Size};
 use instructions::{Control, Flow};
 
+#[tactic(auto, using(instructions::proofs::Families::store), unfolding(memory::specs::Access::answered, memory::specs::Access::stored_at))]
 pub fn store(
     size: Size,
     m: u8,
