@@ -1,18 +1,17 @@
 // The branches (document 000, sections 6.6 to 6.13, 6.25 and 6.26): what they do to PR, and where they lead.
 ghost use Rattle.std.specs.Prelude.{◌≡◌, ℕ, List, if◌then◌else◌};
 ghost use Rattle.instructions.specs.Promises.{Performs};
-ghost use Rattle.instructions.specs.State.{with_pc, with_pr, with_sr};
 
 use arithmetic::addresses;
 use decoder::{Branch, BranchIf, BranchTo, Meaning};
 use instructions::{Control, Flow};
 
 #[tactic(auto, unfolding(instructions::specs::Execute::execute))]
-pub fn branch_if(operation: BranchIf, d: u8, pc: u32, sr: u32) -> Flow
-    ensures { (c : Control) (r memory : List ℕ) → Performs (Meaning.BranchIf operation d) (with_pc pc (with_sr sr c)) r memory result (with_pc pc (with_sr sr c)) r memory }
+pub fn branch_if(operation: BranchIf, d: u8, control: &Control) -> Flow
+    ensures { (r memory : List ℕ) → Performs (Meaning.BranchIf operation d) control.now r memory result control.now r memory }
 {
-    let target = addresses::branch::<0x80>(pc, d as u32);
-    let t = sr % 2;
+    let target = addresses::branch::<0x80>(control.pc, d as u32);
+    let t = control.sr % 2;
     match operation {
         BranchIf::Bf => taken_if(t == 0, Flow::Jump(target)),
         BranchIf::BfS => taken_if(t == 0, Flow::Delay(target)),
@@ -28,34 +27,36 @@ fn taken_if(test: bool, taken: Flow) -> Flow
 }
 
 #[tactic(auto, unfolding(instructions::specs::Execute::execute))]
-pub fn branch(operation: Branch, d: u16, pc: u32, pr: &mut u32) -> Flow
-    ensures { (c : Control) (r memory : List ℕ) → Performs (Meaning.Branch operation d) (with_pc pc (with_pr pr.old c)) r memory result (with_pc pc (with_pr pr.new c)) r memory }
+pub fn branch(operation: Branch, d: u16, control: &mut Control) -> Flow
+    ensures { (r memory : List ℕ) → Performs (Meaning.Branch operation d) control.old r memory result control.new r memory }
 {
+    let pc = control.pc;
     let target = addresses::branch::<0x800>(pc, d as u32);
     match operation {
         Branch::Bra => Flow::Delay(target),
         Branch::Bsr => {
-            *pr = addresses::following(pc);
+            control.pr = addresses::following(pc);
             Flow::Delay(target)
         }
     }
 }
 
 #[tactic(auto, unfolding(instructions::specs::Execute::execute))]
-pub fn branch_to(operation: BranchTo, m: u8, pc: u32, pr: &mut u32, r: &[u32; 16]) -> Flow
-    ensures { (c : Control) (memory : List ℕ) → Performs (Meaning.BranchTo operation m) (with_pc pc (with_pr pr.old c)) r.now memory result (with_pc pc (with_pr pr.new c)) r.now memory }
+pub fn branch_to(operation: BranchTo, m: u8, control: &mut Control, r: &[u32; 16]) -> Flow
+    ensures { (memory : List ℕ) → Performs (Meaning.BranchTo operation m) control.old r.now memory result control.new r.now memory }
 {
+    let pc = control.pc;
     let from = (m % 16) as usize;
     let a = r[from];
     match operation {
         BranchTo::Braf => Flow::Delay(addresses::far(pc, a)),
         BranchTo::Bsrf => {
-            *pr = addresses::following(pc);
+            control.pr = addresses::following(pc);
             Flow::Delay(addresses::far(pc, a))
         }
         BranchTo::Jmp => Flow::Delay(a),
         BranchTo::Jsr => {
-            *pr = addresses::following(pc);
+            control.pr = addresses::following(pc);
             Flow::Delay(a)
         }
     }

@@ -13,6 +13,7 @@ use register_instructions::registers;
 
 // Nothing stands between the decoder and this match, so that the compiler can lead each word of the code table straight to its shape.
 // The PC is only read: what settles a step moves it.
+#[tactic(auto, using(decoder::proofs::Rewriting::rewrites), unfolding(instructions::specs::Execute::attempted, instructions::specs::Execute::execute))]
 pub fn attempt(
     meaning: Meaning,
     slot: bool,
@@ -22,72 +23,48 @@ pub fn attempt(
 ) -> Flow
     ensures { Attempts slot meaning control.old r.old memory.old result control.new r.new memory.new }
 {
-    let pc = control.pc;
     match meaning {
         Meaning::Undefined => Flow::Illegal,
-        Meaning::NoOperand(op) => registers::no_operand(
-            op,
-            &mut control.sr,
-            &mut control.mach,
-            &mut control.macl,
-        ),
+        Meaning::NoOperand(op) => registers::no_operand(op, control),
         Meaning::OneRegister(op, n) => {
-            registers::one_register(op, n, &mut control.sr, r);
+            registers::one_register(op, n, control, r);
             Flow::Next
         }
         Meaning::CompareZero(op, n) => {
-            registers::compare_zero(op, n, &mut control.sr, r);
+            registers::compare_zero(op, n, control, r);
             Flow::Next
         }
         Meaning::TwoRegisters(op, m, n) => {
-            registers::two_registers(op, m, n, &mut control.sr, r);
+            registers::two_registers(op, m, n, control, r);
             Flow::Next
         }
         Meaning::Compare(op, m, n) => {
-            registers::compare(op, m, n, &mut control.sr, r);
+            registers::compare(op, m, n, control, r);
             Flow::Next
         }
         Meaning::Divide(op, m, n) => {
-            registers::divide(op, m, n, &mut control.sr, r);
+            registers::divide(op, m, n, control, r);
             Flow::Next
         }
         Meaning::Multiply(op, m, n) => {
-            registers::multiply(op, m, n, &mut control.mach, &mut control.macl, r);
+            registers::multiply(op, m, n, control, r);
             Flow::Next
         }
-        Meaning::MultiplyAdd(op, m, n) => {
-            accumulate::multiply_add(
-                op,
-                m,
-                n,
-                control.sr,
-                &mut control.mach,
-                &mut control.macl,
-                r,
-                memory,
-            )
-        }
+        Meaning::MultiplyAdd(op, m, n) => accumulate::multiply_add(op, m, n, control, r, memory),
         Meaning::Immediate(op, i, n) => {
             registers::immediate(op, i, n, r);
             Flow::Next
         }
         Meaning::ImmediateR0(op, i) => {
-            registers::immediate_r0(op, i, &mut control.sr, r);
+            registers::immediate_r0(op, i, control, r);
             Flow::Next
         }
-        Meaning::ImmediateByte(op, i) => byte_logic::immediate_byte(
-            op,
-            i,
-            control.gbr,
-            &mut control.sr,
-            r,
-            memory,
-        ),
-        Meaning::Load(size, address, n) => loads::load(size, address, n, control.gbr, r, memory),
+        Meaning::ImmediateByte(op, i) => byte_logic::immediate_byte(op, i, control, r, memory),
+        Meaning::Load(size, address, n) => loads::load(size, address, n, control, r, memory),
         Meaning::LoadIncrement(size, m, n) => loads::load_increment(size, m, n, r, memory),
-        Meaning::Store(size, m, address) => stores::store(size, m, address, control.gbr, r, memory),
+        Meaning::Store(size, m, address) => stores::store(size, m, address, control, r, memory),
         Meaning::StoreDecrement(size, m, n) => stores::store_decrement(size, m, n, r, memory),
-        Meaning::Relative(op, d, n) => loads::relative(op, d, n, pc, r, memory),
+        Meaning::Relative(op, d, n) => loads::relative(op, d, n, control, r, memory),
         Meaning::LoadControl(register, m) => {
             system::load_control(register, m, control, r);
             Flow::Next
@@ -102,12 +79,13 @@ pub fn attempt(
         Meaning::StoreControlLong(register, n) => {
             system::store_control_long(register, n, control, r, memory)
         }
-        Meaning::TasB(n) => byte_logic::tas_b(n, &mut control.sr, r, memory),
+        Meaning::TasB(n) => byte_logic::tas_b(n, control, r, memory),
         _ => rewrite_pc(meaning, slot, control, r, memory),
     }
 }
 
 // The instructions that rewrite the PC: in a slot they are illegal (document 01, "One step", item 3).
+#[tactic(auto, using(decoder::proofs::Rewriting::stays), unfolding(instructions::specs::Execute::attempted, instructions::specs::Execute::execute))]
 fn rewrite_pc(
     meaning: Meaning,
     slot: bool,
@@ -121,12 +99,11 @@ fn rewrite_pc(
     if slot {
         return Flow::Illegal;
     }
-    let pc = control.pc;
     match meaning {
-        Meaning::BranchIf(op, d) => branches::branch_if(op, d, pc, control.sr),
-        Meaning::Branch(op, d) => branches::branch(op, d, pc, &mut control.pr),
-        Meaning::BranchTo(op, m) => branches::branch_to(op, m, pc, &mut control.pr, r),
-        Meaning::Return(op) => returns::return_by(op, &mut control.sr, control.pr, r, memory),
+        Meaning::BranchIf(op, d) => branches::branch_if(op, d, control),
+        Meaning::Branch(op, d) => branches::branch(op, d, control),
+        Meaning::BranchTo(op, m) => branches::branch_to(op, m, control, r),
+        Meaning::Return(op) => returns::return_by(op, control, r, memory),
         Meaning::Trapa(i) => Flow::Trap(i),
         _ => Flow::Illegal,
     }

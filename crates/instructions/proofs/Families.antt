@@ -7,15 +7,13 @@ use Rattle.decoder.specs.declared.meaning.Address.{Address}
 use Rattle.decoder.specs.declared.meaning.Address.TheVariants.{Indirect, Indexed, Displacement, GbrDisplacement}
 use Rattle.decoder.specs.declared.meaning.ControlRegister.{ControlRegister}
 use Rattle.decoder.specs.declared.meaning.ControlRegister.TheVariants.{Gbr, Sr, Vbr, Mach, Macl, Pr}
-use Rattle.decoder.specs.declared.meaning.Meaning.TheVariants.{MultiplyAdd as MeansMultiplyAdd, Load, LoadIncrement, Store, StoreDecrement, LoadControl, LoadControlLong, StoreControl, StoreControlLong}
-use Rattle.decoder.specs.declared.meaning.MultiplyAdd.{MultiplyAdd}
-use Rattle.decoder.specs.declared.meaning.MultiplyAdd.TheVariants.{MacL, MacW}
+use Rattle.decoder.specs.declared.meaning.Meaning.TheVariants.{Load, LoadIncrement, Store, StoreDecrement, LoadControl, LoadControlLong, StoreControl, StoreControlLong}
 use Rattle.decoder.specs.declared.meaning.Size.{Size}
 use Rattle.decoder.specs.declared.meaning.Size.TheVariants.{Byte, Word, Long}
 use Rattle.instructions.specs.Execute.{execute}
-use Rattle.instructions.specs.Shapes.{next, gives, gives_mac, loading, storing, storing_and, incremented, minus}
-use Rattle.instructions.specs.Promises.{accumulated, bytes, control_register, effective, extended, operand_bytes, with_control_register}
-use Rattle.instructions.specs.State.{State, reg, with_reg, changed, s_bit}
+use Rattle.instructions.specs.Shapes.{next, gives, loading, storing, storing_and, incremented, minus}
+use Rattle.instructions.specs.Promises.{bytes, control_register, effective, extended, with_control_register}
+use Rattle.instructions.specs.State.{State, reg, with_reg, changed}
 
 pub load_control :
     (x : ControlRegister) (m pc : ℕ) (s : State) → execute (LoadControl x m) pc s ≡ next (changed (with_control_register x (reg m s)) s)
@@ -111,16 +109,3 @@ unfolding execute
 store_decrement Byte m n pc s = refl
 store_decrement Word m n pc s = refl
 store_decrement Long m n pc s = refl
-
-pub multiply_add :
-    (x : MultiplyAdd) (m n pc : ℕ) (s : State) →
-    execute (MeansMultiplyAdd x m n) pc s ≡
-    let k = operand_bytes x in
-    loading k (reg n s) s
-    (λ b.
-    loading k (reg m (incremented k n s)) s
-    (λ a.
-    gives_mac (accumulated x s.control.mach s.control.macl (s_bit s) a b) (incremented k m (incremented k n s))))
-unfolding execute
-multiply_add MacL m n pc s = refl
-multiply_add MacW m n pc s = refl

@@ -2,7 +2,6 @@
 ghost use Rattle.std.specs.Prelude.{◌≡◌, ℕ, ◌*◌, List};
 ghost use Rattle.memory.specs.Access.{loaded, Stores};
 ghost use Rattle.instructions.specs.Promises as Promises;
-ghost use Rattle.instructions.specs.State.{with_gbr};
 
 use arithmetic::transfers;
 use decoder::{Address, Size};
@@ -19,14 +18,14 @@ pub fn bytes(size: Size) -> u32
     }
 }
 
-pub fn effective(size: Size, address: Address, gbr: u32, r: &[u32; 16]) -> u32
-    ensures { (c : Control) (memory : List ℕ) → result ≡ Promises.effective size address (Promises.state r.now (with_gbr gbr c) memory) }
+pub fn effective(size: Size, address: Address, control: &Control, r: &[u32; 16]) -> u32
+    ensures { (memory : List ℕ) → result ≡ Promises.effective size address (Promises.state r.now control.now memory) }
 {
     match address {
         Address::Indirect(n) => r[(n % 16) as usize],
         Address::Indexed(n) => r[0].wrapping_add(r[(n % 16) as usize]),
         Address::Displacement(d, n) => r[(n % 16) as usize].wrapping_add(scaled(size, d)),
-        Address::GbrDisplacement(d) => gbr.wrapping_add(scaled(size, d)),
+        Address::GbrDisplacement(d) => control.gbr.wrapping_add(scaled(size, d)),
     }
 }
 

@@ -3,25 +3,22 @@
 ghost use Rattle.std.specs.Prelude.{◌≡◌};
 ghost use Rattle.memory.specs.Access.{loaded};
 ghost use Rattle.instructions.specs.Promises as Promises;
-ghost use Rattle.instructions.specs.State.{with_mac, with_sr};
 
 use decoder::{Meaning, MultiplyAdd};
 use instructions::{Control, Flow};
 use memory::{Access, Long, Word};
 use multiply::Mac;
 
-#[tactic(auto, unfolding(instructions::specs::Execute::execute))]
+#[tactic(auto, using(crate::proofs::Registers::set_back), unfolding(instructions::specs::Execute::execute))]
 pub fn multiply_add(
     operation: MultiplyAdd,
     m: u8,
     n: u8,
-    sr: u32,
-    mach: &mut u32,
-    macl: &mut u32,
+    control: &mut Control,
     r: &mut [u32; 16],
     memory: &[u8],
 ) -> Flow
-    ensures { (c : Control) → Promises.Performs (Meaning.MultiplyAdd operation m n) (with_sr sr (with_mac mach.old macl.old c)) r.old memory.now result (with_sr sr (with_mac mach.new macl.new c)) r.new memory.now }
+    ensures { Promises.Performs (Meaning.MultiplyAdd operation m n) control.old r.old memory.now result control.new r.new memory.now }
 {
     let from = (m % 16) as usize;
     let into = (n % 16) as usize;
@@ -36,9 +33,10 @@ pub fn multiply_add(
         return Flow::Fault;
     };
     r[from] = r[from].wrapping_add(k);
-    let sum = accumulated(operation, *mach, *macl, sr / 2 % 2, a, b);
-    *mach = sum.mach;
-    *macl = sum.macl;
+    let s = control.sr / 2 % 2;
+    let sum = accumulated(operation, control.mach, control.macl, s, a, b);
+    control.mach = sum.mach;
+    control.macl = sum.macl;
     Flow::Next
 }
 

@@ -1,6 +1,5 @@
 // The instructions that test or change one byte in place (document 000, sections 6.5, 6.45, 6.66, 6.68 and 6.69).
-ghost use Rattle.instructions.specs.Promises.{OnSr, Performs, Replaces};
-ghost use Rattle.instructions.specs.State.{with_gbr, with_sr};
+ghost use Rattle.instructions.specs.Promises.{Performs, Replaces};
 
 use arithmetic::logic;
 use decoder::{ImmediateByte, Meaning};
@@ -11,14 +10,13 @@ use memory::{Access, Byte};
 pub fn immediate_byte(
     operation: ImmediateByte,
     i: u8,
-    gbr: u32,
-    sr: &mut u32,
+    control: &mut Control,
     r: &[u32; 16],
     memory: &mut [u8],
 ) -> Flow
-    ensures { (c : Control) → Performs (Meaning.ImmediateByte operation i) (with_sr sr.old (with_gbr gbr c)) r.now memory.old result (with_sr sr.new (with_gbr gbr c)) r.now memory.new }
+    ensures { Performs (Meaning.ImmediateByte operation i) control.old r.now memory.old result control.new r.now memory.new }
 {
-    let at = gbr.wrapping_add(r[0]);
+    let at = control.gbr.wrapping_add(r[0]);
     let Some(v) = Byte::load(memory, at) else {
         return Flow::Fault;
     };
@@ -26,7 +24,7 @@ pub fn immediate_byte(
         ImmediateByte::AndB => replace(logic::and(i as u32, v), at, memory),
         ImmediateByte::OrB => replace(logic::or(i as u32, v), at, memory),
         ImmediateByte::TstB => {
-            *sr = with_t(*sr, logic::tst(i as u32, v));
+            control.sr = with_t(control.sr, logic::tst(i as u32, v));
             Flow::Next
         }
         ImmediateByte::XorB => replace(logic::xor(i as u32, v), at, memory),
@@ -34,8 +32,8 @@ pub fn immediate_byte(
 }
 
 #[tactic(auto, unfolding(instructions::specs::Execute::execute, memory::specs::Access::answered, memory::specs::Access::stored_at))]
-pub fn tas_b(n: u8, sr: &mut u32, r: &[u32; 16], memory: &mut [u8]) -> Flow
-    ensures { OnSr (Meaning.TasB n) sr.old r.now memory.old result sr.new r.now memory.new }
+pub fn tas_b(n: u8, control: &mut Control, r: &[u32; 16], memory: &mut [u8]) -> Flow
+    ensures { Performs (Meaning.TasB n) control.old r.now memory.old result control.new r.now memory.new }
 {
     let at = r[(n % 16) as usize];
     let Some(v) = Byte::load(memory, at) else {
@@ -44,7 +42,7 @@ pub fn tas_b(n: u8, sr: &mut u32, r: &[u32; 16], memory: &mut [u8]) -> Flow
     if Byte::store(memory, at, logic::or(128, v)).is_err() {
         return Flow::Fault;
     }
-    *sr = with_t(*sr, (v == 0) as u32);
+    control.sr = with_t(control.sr, (v == 0) as u32);
     Flow::Next
 }
 

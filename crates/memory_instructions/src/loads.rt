@@ -1,6 +1,5 @@
 // The instructions that read memory into a general register (document 000, sections 6.32 to 6.36).
 ghost use Rattle.instructions.specs.Promises.{Performs};
-ghost use Rattle.instructions.specs.State.{with_gbr, with_pc};
 
 use crate::accesses;
 use arithmetic::{addresses, transfers};
@@ -8,10 +7,18 @@ use decoder::{Address, Meaning, Relative, Size};
 use instructions::{Control, Flow};
 use memory::{Access, Long, Word};
 
-pub fn load(size: Size, address: Address, n: u8, gbr: u32, r: &mut [u32; 16], memory: &[u8]) -> Flow
-    ensures { (c : Control) → Performs (Meaning.Load size address n) (with_gbr gbr c) r.old memory.now result (with_gbr gbr c) r.new memory.now }
+#[tactic(auto, using(instructions::proofs::Families::load))]
+pub fn load(
+    size: Size,
+    address: Address,
+    n: u8,
+    control: &Control,
+    r: &mut [u32; 16],
+    memory: &[u8],
+) -> Flow
+    ensures { Performs (Meaning.Load size address n) control.now r.old memory.now result control.now r.new memory.now }
 {
-    let at = accesses::effective(size, address, gbr, r);
+    let at = accesses::effective(size, address, control, r);
     let Some(v) = accesses::load(size, memory, at) else {
         return Flow::Fault;
     };
@@ -38,13 +45,14 @@ pub fn relative(
     operation: Relative,
     d: u8,
     n: u8,
-    pc: u32,
+    control: &Control,
     r: &mut [u32; 16],
     memory: &[u8],
 ) -> Flow
-    ensures { (c : Control) → Performs (Meaning.Relative operation d n) (with_pc pc c) r.old memory.now result (with_pc pc c) r.new memory.now }
+    ensures { Performs (Meaning.Relative operation d n) control.now r.old memory.now result control.now r.new memory.now }
 {
     let into = (n % 16) as usize;
+    let pc = control.pc;
     let given = match operation {
         Relative::MovW => {
             Word::load(memory, addresses::relative_word(pc, d)).map(transfers::exts_w)

@@ -1,23 +1,23 @@
 // The instructions that write a general register to memory (document 000, sections 6.32, 6.34 and 6.35).
 ghost use Rattle.instructions.specs.Promises.{Performs};
-ghost use Rattle.instructions.specs.State.{with_gbr};
 
 use crate::accesses;
 use arithmetic::sums;
 use decoder::{Address, Meaning, Size};
 use instructions::{Control, Flow};
 
+#[tactic(auto, using(instructions::proofs::Families::store), unfolding(memory::specs::Access::answered, memory::specs::Access::stored_at))]
 pub fn store(
     size: Size,
     m: u8,
     address: Address,
-    gbr: u32,
+    control: &Control,
     r: &[u32; 16],
     memory: &mut [u8],
 ) -> Flow
-    ensures { (c : Control) → Performs (Meaning.Store size m address) (with_gbr gbr c) r.now memory.old result (with_gbr gbr c) r.now memory.new }
+    ensures { Performs (Meaning.Store size m address) control.now r.now memory.old result control.now r.now memory.new }
 {
-    let at = accesses::effective(size, address, gbr, r);
+    let at = accesses::effective(size, address, control, r);
     match accesses::store(size, memory, at, r[(m % 16) as usize]) {
         Ok(()) => Flow::Next,
         Err(_) => Flow::Fault,

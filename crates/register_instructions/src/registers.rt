@@ -1,7 +1,6 @@
-// The instructions that work on registers alone (document 000, chapter 6), a function for each shape. Each is lent what it may change.
+// The instructions that work on registers alone (document 000, chapter 6), a function for each shape.
 ghost use Rattle.std.specs.Prelude.{List, ℕ};
-ghost use Rattle.instructions.specs.Promises.{Computes, Performs};
-ghost use Rattle.instructions.specs.State.{with_mac, with_sr};
+ghost use Rattle.instructions.specs.Promises.{Performs};
 
 use crate::results;
 use arithmetic::{compares, logic, sums, transfers};
@@ -13,75 +12,81 @@ use divide::Bits;
 use instructions::{Control, Flow, with_mqt, with_t};
 
 #[tactic(auto, unfolding(instructions::specs::Execute::execute))]
-pub fn no_operand(operation: NoOperand, sr: &mut u32, mach: &mut u32, macl: &mut u32) -> Flow
-    ensures { (c : Control) (r memory : List ℕ) → Performs (Meaning.NoOperand operation) (with_sr sr.old (with_mac mach.old macl.old c)) r memory result (with_sr sr.new (with_mac mach.new macl.new c)) r memory }
+pub fn no_operand(operation: NoOperand, control: &mut Control) -> Flow
+    ensures { (r memory : List ℕ) → Performs (Meaning.NoOperand operation) control.old r memory result control.new r memory }
 {
     match operation {
         NoOperand::Clrmac => {
-            *mach = 0;
-            *macl = 0;
+            control.mach = 0;
+            control.macl = 0;
             Flow::Next
         }
         NoOperand::Clrt => {
-            *sr = with_t(*sr, 0);
+            control.sr = with_t(control.sr, 0);
             Flow::Next
         }
         NoOperand::Div0u => {
-            *sr = with_mqt(*sr, divide::div0u());
+            control.sr = with_mqt(control.sr, divide::div0u());
             Flow::Next
         }
         NoOperand::Nop => Flow::Next,
         NoOperand::Sett => {
-            *sr = with_t(*sr, 1);
+            control.sr = with_t(control.sr, 1);
             Flow::Next
         }
         NoOperand::Sleep => Flow::Sleep,
     }
 }
 
-pub fn two_registers(operation: TwoRegisters, m: u8, n: u8, sr: &mut u32, r: &mut [u32; 16])
-    ensures { Computes (Meaning.TwoRegisters operation m n) sr.old r.old sr.new r.new }
+pub fn two_registers(
+    operation: TwoRegisters,
+    m: u8,
+    n: u8,
+    control: &mut Control,
+    r: &mut [u32; 16],
+)
+    ensures { (memory : List ℕ) → Performs (Meaning.TwoRegisters operation m n) control.old r.old memory Flow.Next control.new r.new memory }
 {
     let from = (m % 16) as usize;
     let into = (n % 16) as usize;
-    let w = results::of_two_registers(operation, r[from], r[into], *sr % 2);
+    let w = results::of_two_registers(operation, r[from], r[into], control.sr % 2);
     r[into] = w.value;
-    *sr = with_t(*sr, w.t);
+    control.sr = with_t(control.sr, w.t);
 }
 
-pub fn one_register(operation: OneRegister, n: u8, sr: &mut u32, r: &mut [u32; 16])
-    ensures { Computes (Meaning.OneRegister operation n) sr.old r.old sr.new r.new }
+pub fn one_register(operation: OneRegister, n: u8, control: &mut Control, r: &mut [u32; 16])
+    ensures { (memory : List ℕ) → Performs (Meaning.OneRegister operation n) control.old r.old memory Flow.Next control.new r.new memory }
 {
     let into = (n % 16) as usize;
-    let w = results::of_one_register(operation, r[into], *sr % 2);
+    let w = results::of_one_register(operation, r[into], control.sr % 2);
     r[into] = w.value;
-    *sr = with_t(*sr, w.t);
+    control.sr = with_t(control.sr, w.t);
 }
 
-pub fn compare(operation: Compare, m: u8, n: u8, sr: &mut u32, r: &[u32; 16])
-    ensures { Computes (Meaning.Compare operation m n) sr.old r.now sr.new r.now }
+pub fn compare(operation: Compare, m: u8, n: u8, control: &mut Control, r: &[u32; 16])
+    ensures { (memory : List ℕ) → Performs (Meaning.Compare operation m n) control.old r.now memory Flow.Next control.new r.now memory }
 {
     let from = (m % 16) as usize;
     let into = (n % 16) as usize;
-    *sr = with_t(*sr, results::of_compare(operation, r[from], r[into]));
+    control.sr = with_t(control.sr, results::of_compare(operation, r[from], r[into]));
 }
 
-pub fn compare_zero(operation: CompareZero, n: u8, sr: &mut u32, r: &[u32; 16])
-    ensures { Computes (Meaning.CompareZero operation n) sr.old r.now sr.new r.now }
+pub fn compare_zero(operation: CompareZero, n: u8, control: &mut Control, r: &[u32; 16])
+    ensures { (memory : List ℕ) → Performs (Meaning.CompareZero operation n) control.old r.now memory Flow.Next control.new r.now memory }
 {
     let into = (n % 16) as usize;
-    *sr = with_t(*sr, results::of_compare_zero(operation, r[into]));
+    control.sr = with_t(control.sr, results::of_compare_zero(operation, r[into]));
 }
 
 #[tactic(auto, unfolding(instructions::specs::Execute::execute))]
-pub fn divide(operation: Divide, m: u8, n: u8, sr: &mut u32, r: &mut [u32; 16])
-    ensures { Computes (Meaning.Divide operation m n) sr.old r.old sr.new r.new }
+pub fn divide(operation: Divide, m: u8, n: u8, control: &mut Control, r: &mut [u32; 16])
+    ensures { (memory : List ℕ) → Performs (Meaning.Divide operation m n) control.old r.old memory Flow.Next control.new r.new memory }
 {
     let from = (m % 16) as usize;
     let into = (n % 16) as usize;
-    let before = *sr;
+    let before = control.sr;
     match operation {
-        Divide::Div0s => *sr = with_mqt(before, divide::div0s(r[from], r[into])),
+        Divide::Div0s => control.sr = with_mqt(before, divide::div0s(r[from], r[into])),
         Divide::Div1 => {
             let m_bit = before / 512 % 2;
             let d = divide::div1(r[from], r[into], m_bit, before / 256 % 2, before % 2);
@@ -91,14 +96,14 @@ pub fn divide(operation: Divide, m: u8, n: u8, sr: &mut u32, r: &mut [u32; 16])
                 q: d.q,
                 t: d.t,
             };
-            *sr = with_mqt(before, bits);
+            control.sr = with_mqt(before, bits);
         }
     }
 }
 
 #[tactic(auto, unfolding(instructions::specs::Execute::execute))]
-pub fn multiply(operation: Multiply, m: u8, n: u8, mach: &mut u32, macl: &mut u32, r: &[u32; 16])
-    ensures { (c : Control) (memory : List ℕ) → Performs (Meaning.Multiply operation m n) (with_mac mach.old macl.old c) r.now memory Flow.Next (with_mac mach.new macl.new c) r.now memory }
+pub fn multiply(operation: Multiply, m: u8, n: u8, control: &mut Control, r: &[u32; 16])
+    ensures { (memory : List ℕ) → Performs (Meaning.Multiply operation m n) control.old r.now memory Flow.Next control.new r.now memory }
 {
     let from = (m % 16) as usize;
     let into = (n % 16) as usize;
@@ -107,17 +112,17 @@ pub fn multiply(operation: Multiply, m: u8, n: u8, mach: &mut u32, macl: &mut u3
     match operation {
         Multiply::DmulsL => {
             let p = multiply::dmuls_l(a, b);
-            *mach = p.mach;
-            *macl = p.macl;
+            control.mach = p.mach;
+            control.macl = p.macl;
         }
         Multiply::DmuluL => {
             let p = multiply::dmulu_l(a, b);
-            *mach = p.mach;
-            *macl = p.macl;
+            control.mach = p.mach;
+            control.macl = p.macl;
         }
-        Multiply::MulL => *macl = multiply::mul_l(a, b),
-        Multiply::MulsW => *macl = multiply::muls_w(a, b),
-        Multiply::MuluW => *macl = multiply::mulu_w(a, b),
+        Multiply::MulL => control.macl = multiply::mul_l(a, b),
+        Multiply::MulsW => control.macl = multiply::muls_w(a, b),
+        Multiply::MuluW => control.macl = multiply::mulu_w(a, b),
     }
 }
 
@@ -134,17 +139,17 @@ pub fn immediate(operation: Immediate, i: u8, n: u8, r: &mut [u32; 16])
 }
 
 #[tactic(auto, unfolding(instructions::specs::Execute::execute))]
-pub fn immediate_r0(operation: ImmediateR0, i: u8, sr: &mut u32, r: &mut [u32; 16])
-    ensures { Computes (Meaning.ImmediateR0 operation i) sr.old r.old sr.new r.new }
+pub fn immediate_r0(operation: ImmediateR0, i: u8, control: &mut Control, r: &mut [u32; 16])
+    ensures { (memory : List ℕ) → Performs (Meaning.ImmediateR0 operation i) control.old r.old memory Flow.Next control.new r.new memory }
 {
     let b = r[0];
     match operation {
         ImmediateR0::AndImm => r[0] = logic::and(i as u32, b),
         ImmediateR0::CmpEqImm => {
-            *sr = with_t(*sr, compares::cmp_eq(transfers::exts_b(i as u32), b));
+            control.sr = with_t(control.sr, compares::cmp_eq(transfers::exts_b(i as u32), b));
         }
         ImmediateR0::OrImm => r[0] = logic::or(i as u32, b),
-        ImmediateR0::TstImm => *sr = with_t(*sr, logic::tst(i as u32, b)),
+        ImmediateR0::TstImm => control.sr = with_t(control.sr, logic::tst(i as u32, b)),
         ImmediateR0::XorImm => r[0] = logic::xor(i as u32, b),
     }
 }

@@ -1,6 +1,6 @@
 // What the instructions on general registers compute (document 000, chapter 6): a value for Rn, and T. An instruction that has nothing
 // to say of T keeps it.
-ghost use Rattle.std.specs.Prelude.{◌≡◌, ℕ};
+ghost use Rattle.std.specs.Prelude.{◌≡◌};
 ghost use Rattle.instructions.specs.Promises.{Gives, Tells, keeping};
 
 use arithmetic::{compares, logic, sums, transfers};
@@ -36,10 +36,10 @@ pub fn of_two_registers(operation: TwoRegisters, a: u32, b: u32, t: u32) -> With
     }
 }
 
-// From Rn and T.
+// From Rn and T. The instruction names no Rm: Rn stands for it in the promise.
 #[tactic(auto, unfolding(instructions::specs::Execute::execute))]
 pub fn of_one_register(operation: OneRegister, b: u32, t: u32) -> WithT
-    ensures { (a : ℕ) → Gives (λ m n. Meaning.OneRegister operation n) a b t result }
+    ensures { Gives (λ m n. Meaning.OneRegister operation n) b b t result }
 {
     match operation {
         OneRegister::Dt => sums::dt(b),
@@ -77,10 +77,10 @@ pub fn of_compare(operation: Compare, a: u32, b: u32) -> u32
     }
 }
 
-// T, from Rn.
+// T, from Rn, which stands for Rm too.
 #[tactic(auto, unfolding(instructions::specs::Execute::execute))]
 pub fn of_compare_zero(operation: CompareZero, b: u32) -> u32
-    ensures { (a : ℕ) → Tells (λ m n. Meaning.CompareZero operation n) a b result }
+    ensures { Tells (λ m n. Meaning.CompareZero operation n) b b result }
 {
     match operation {
         CompareZero::CmpPl => compares::cmp_pl(b),
