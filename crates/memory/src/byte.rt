@@ -5,7 +5,7 @@ ghost use lib.Bits.{and_mask};
 use crate::width::Width;
 use crate::{Access, read_byte, write_byte};
 
-#[derive(Clone, Copy)]
+#[derive(Clone, Copy, Debug, PartialEq, Eq)]
 pub struct Byte;
 
 impl Access for Byte {

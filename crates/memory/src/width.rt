@@ -1,5 +1,5 @@
-// What each size does with its own bytes, where they lie inside the memory. The crates above have the functions of `Access` alone, which
-// ask for nothing.
+// What each size does with its own bytes, where they lie inside the memory. No other crate can name this trait: those above call the
+// functions of `Access`, which ask for nothing.
 ghost use Rattle.std.specs.Prelude.{◌≡◌, ◌+◌, ◌≤◌, ℕ, length};
 ghost use Rattle.memory.specs.Access.{value_at, written};
 

@@ -50,8 +50,8 @@ pub fn tas_b(n: u8, control: &mut Control, r: &[u32; 16], memory: &mut [u8]) -> 
 fn replace(byte: u32, at: u32, memory: &mut [u8]) -> Flow
     ensures { Replaces byte at memory.old result memory.new }
 {
-    match Byte::store(memory, at, byte) {
-        Ok(()) => Flow::Next,
-        Err(_) => Flow::Fault,
+    if Byte::store(memory, at, byte).is_err() {
+        return Flow::Fault;
     }
+    Flow::Next
 }

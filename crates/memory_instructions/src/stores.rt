@@ -18,10 +18,10 @@ pub fn store(
     ensures { Performs (Meaning.Store size m address) control.now r.now memory.old result control.now r.now memory.new }
 {
     let at = accesses::effective(size, address, control, r);
-    match accesses::store(size, memory, at, r[(m % 16) as usize]) {
-        Ok(()) => Flow::Next,
-        Err(_) => Flow::Fault,
+    if accesses::store(size, memory, at, r[(m % 16) as usize]).is_err() {
+        return Flow::Fault;
     }
+    Flow::Next
 }
 
 #[tactic(auto, unfolding(instructions::specs::Execute::execute, memory::specs::Access::answered, memory::specs::Access::stored_at))]

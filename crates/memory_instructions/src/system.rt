@@ -29,7 +29,7 @@ pub fn load_control_long(
     let Some(v) = Long::load(memory, at) else {
         return Flow::Fault;
     };
-    r[from] = at.wrapping_add(4);
+    r[from] = at.wrapping_add(Long::BYTES);
     control.set_register(register, v);
     Flow::Next
 }
@@ -52,7 +52,7 @@ pub fn store_control_long(
     ensures { Performs (Meaning.StoreControlLong register n) control.now r.old memory.old result control.now r.new memory.new }
 {
     let into = (n % 16) as usize;
-    let at = sums::sub(4, r[into]);
+    let at = sums::sub(Long::BYTES, r[into]);
     if Long::store(memory, at, control.register(register)).is_err() {
         return Flow::Fault;
     }

@@ -1,6 +1,6 @@
 -- The laws of marks: a bit that is set leaves the others, and what was marked is marked with what is asked for.
 -- Assumes nothing.
-use Rattle.std.proofs.Common.{◌≡◌, ℕ, zero, suc, ◌+◌, ◌-◌, ◌*◌, ◌/◌, ◌%◌, ◌^◌, ◌<◌, ◌≤◌, min, Bool, true, false, ◌&&◌, ◌||◌, eqb, ltb, leb, List, length, get_or, set, sym, refl, ◌∙◌, true≢false, lt_of_le_of_lt, mod-eq_of_lt, one-mul, arith, length-set, get_or-set_other, get_or-set_same, pow_pos, ltb-false, ltb-true, le-ltb, lt-ltb, eqb-true, le-leb, leb-false, leb-true}
+use Rattle.std.proofs.Common.{◌≡◌, ℕ, zero, suc, ◌+◌, ◌-◌, ◌*◌, ◌/◌, ◌%◌, ◌^◌, ◌<◌, ◌≤◌, min, Bool, true, false, ◌&&◌, ◌||◌, eqb, ltb, leb, List, length, get_or, set, sym, refl, ◌∙◌, true≢false, lt_of_le_of_lt, mod-eq_of_lt, one-mul, arith, get_or-set_other, get_or-set_same, pow_pos, ltb-false, ltb-true, le-ltb, lt-ltb, eqb-true, le-leb, leb-false, leb-true}
 use mathlib.Core.Bool.{or_assoc, or-false, or-true, false≢true}
 use native.Mathlib.Nat.{add-div_right, div-div-eq-div-mul, pow-le-pow_right, pow-succ'}
 use borrow.Author.Tests.{eqb-false, lt-leb}
@@ -37,9 +37,6 @@ bit_fits (suc k) (suc m) b below small clear =
 -- The bit of a mark, set in a list of marks.
 abbrev pub with_mark : List ℕ → ℕ → List ℕ
 with_mark marks i = set marks (i / 8) (get_or marks (i / 8) 0 + 2 ^ (i % 8))
-
-pub length_with_mark : (marks : List ℕ) (i : ℕ) → length (with_mark marks i) ≡ length marks
-length_with_mark marks i = length-set marks (i / 8) _
 
 unmarked : (n : ℕ) → eqb (n % 2) 1 ≡ false → n % 2 ≡ 0
 unmarked n failed = omega (arith, eqb-false (n % 2) 1 failed)
@@ -95,16 +92,6 @@ between_more low i after j = go (eqb j i) refl
     go : (same : Bool) → eqb j i ≡ same → between low (i + 1) j ≡ (between low i j || same)
     go true e = rw (eqb-true j i e, le-leb low i after, lt-ltb i (i + 1) (omega arith), or-true)
     go false e = rw (before_next j i (eqb-false j i e), or-false)
-
--- Nothing asked for, nothing marked.
-pub marks_nothing :
-    (marks : List ℕ) (wanted : ℕ → Bool) → ((i : ℕ) → i < 229376 → wanted i ≡ false) → Marks marks wanted false marks
-marks_nothing marks wanted None =
-    record {
-      taken = λ e. absurd (false≢true e);
-      free = λ e i below w. absurd (false≢true (sym (None i below) ∙ w));
-      now = λ e i below. rw (None i below, or-false);
-    }
 
 module _ {before after : List ℕ} {wanted : ℕ → Bool} where
   -- What is not asked for is as it was.

@@ -15,7 +15,7 @@ fn digit(d: u8) -> u8
     requires { d < 16 }
     ensures { result ≡ Text.digit Upper d }
 {
-    48 + d + (d + 6) / 16 * 7
+    b'0' + d + (d + 6) / 16 * 7
 }
 
 // The digits of bytes, two each. An iterator over the bytes, with the place counted beside it, took twice as long as the index.
@@ -61,7 +61,7 @@ fn line(buffer: &mut [u8], at: usize, start: &[u8; 2], address: u32, bytes: &[u8
     pairs(buffer, at + 2, &head);
     pairs(buffer, at + 12, bytes);
     pairs(buffer, end, &check);
-    buffer[end + 2] = 10;
+    buffer[end + 2] = b'\n';
     end + 3
 }
 

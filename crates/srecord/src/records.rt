@@ -8,7 +8,7 @@ use crate::lines;
 use crate::openings::{Kind, Opening};
 
 // What is kept of a record: the data's length is that of the bytes which it writes.
-#[derive(Clone, Copy)]
+#[derive(Clone, Copy, Debug, PartialEq, Eq)]
 pub struct Summary {
     pub opening: Opening,
     pub address: u32,

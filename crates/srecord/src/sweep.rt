@@ -2,7 +2,7 @@
 ghost use Rattle.std.specs.Prelude.{◌≡◌, ◌+◌, ◌^◌, ◌<◌, not, ◌&&◌, if◌then◌else◌, ◌==◌, nat_eq, nat_lt};
 ghost use Rattle.memory.specs.Lengths.{first};
 ghost use Rattle.srecord.specs.Load.{number_of, records, told, verdict};
-ghost use Rattle.srecord.specs.Records.{is_count, is_data, record_of};
+ghost use Rattle.srecord.specs.Records.{is_count, record_of};
 ghost use Rattle.srecord.specs.Promises as Promises;
 
 use crate::openings::Kind;
@@ -11,7 +11,7 @@ use crate::{Refusal, Refused, records};
 
 // What is known of the lines so far: data lines, whether one was a closing line, where the last data ended, and whether each began at or
 // behind the end of the one before it.
-#[derive(Clone, Copy)]
+#[derive(Clone, Copy, Debug, PartialEq, Eq)]
 pub struct SoFar {
     pub count: usize,
     pub closed: bool,
@@ -34,7 +34,7 @@ impl SoFar {
 }
 
 // What the sweep answers, the lines before the one that is refused, and whether their data stand in order.
-#[derive(Clone, Copy)]
+#[derive(Clone, Copy, Debug, PartialEq, Eq)]
 pub struct Swept {
     pub verdict: Result<(), Refused>,
     pub passed: usize,
@@ -72,13 +72,6 @@ fn single(size: usize, s: SoFar, r: Summary) -> Result<(), Refusal>
     Ok(())
 }
 
-fn count_after(kind: Kind, count: usize) -> usize
-    requires { count + 1 < 2 ^ 64 }
-    ensures { result ≡ (if is_data kind then count + 1 else count) }
-{
-    if kind == Kind::Data { count + 1 } else { count }
-}
-
 fn top_after(top: usize, r: Summary) -> usize
     ensures { result ≡ (if nat_eq r.length 0 then top else r.address + r.length) }
 {
@@ -95,7 +88,7 @@ fn noted(s: SoFar, r: Summary) -> SoFar
 {
     let kind = r.opening.kind;
     SoFar {
-        count: count_after(kind, s.count),
+        count: s.count + (kind == Kind::Data) as usize,
         closed: (kind == Kind::Closing) | s.closed,
         top: top_after(s.top, r),
         ordered: s.ordered & ((r.length == 0) | (s.top <= r.address as usize)),
