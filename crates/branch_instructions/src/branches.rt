@@ -11,7 +11,7 @@ pub fn branch_if(operation: BranchIf, d: u8, control: &Control) -> Flow
     ensures { (r memory : List ℕ) → Performs (Meaning.BranchIf operation d) control.now r memory result control.now r memory }
 {
     let target = addresses::branch::<0x80>(control.pc, d as u32);
-    let t = control.sr % 2;
+    let t = control.t_bit();
     match operation {
         BranchIf::Bf => taken_if(t == 0, Flow::Jump(target)),
         BranchIf::BfS => taken_if(t == 0, Flow::Delay(target)),

@@ -1,5 +1,5 @@
 // The control registers, and where an instruction leads.
-ghost use Rattle.std.specs.Prelude.{◌≡◌};
+ghost use Rattle.std.specs.Prelude.{◌≡◌, ◌/◌, ◌%◌, ◌^◌};
 ghost use Rattle.instructions.specs.Promises as Promises;
 ghost use Rattle.instructions.specs.State as State;
 
@@ -49,19 +49,43 @@ impl Control {
             ControlRegister::Pr => self.pr,
         }
     }
-}
 
-// SR with another T; with another M, Q and T.
-pub fn with_t(sr: u32, t: u32) -> u32
-    ensures { result ≡ State.sr_with_t t sr }
-{
-    sr / 2 * 2 + t % 2
-}
+    // The bits of SR that instructions read, and those that they write.
+    pub fn t_bit(&self) -> u32
+        ensures { result ≡ self.now.sr % 2 }
+    {
+        self.sr % 2
+    }
 
-pub fn with_mqt(sr: u32, bits: Bits) -> u32
-    ensures { result ≡ State.sr_with_mqt bits.m bits.q bits.t sr }
-{
-    bits.m % 2 * 512 + bits.q % 2 * 256 + sr / 2 % 128 * 2 + bits.t % 2
+    pub fn s_bit(&self) -> u32
+        ensures { result ≡ self.now.sr / 2 % 2 }
+    {
+        self.sr / 2 % 2
+    }
+
+    pub fn q_bit(&self) -> u32
+        ensures { result ≡ self.now.sr / 2 ^ 8 % 2 }
+    {
+        self.sr / 256 % 2
+    }
+
+    pub fn m_bit(&self) -> u32
+        ensures { result ≡ self.now.sr / 2 ^ 9 % 2 }
+    {
+        self.sr / 512 % 2
+    }
+
+    pub fn set_t(&mut self, t: u32)
+        ensures { self.new ≡ State.with_t t self.old }
+    {
+        self.sr = self.sr / 2 * 2 + t % 2;
+    }
+
+    pub fn set_mqt(&mut self, bits: Bits)
+        ensures { self.new ≡ State.with_mqt bits.m bits.q bits.t self.old }
+    {
+        self.sr = bits.m % 2 * 512 + bits.q % 2 * 256 + self.sr / 2 % 128 * 2 + bits.t % 2;
+    }
 }
 
 // Where an instruction leads. It does not know the PC's next value or the mode: what settles a step does.

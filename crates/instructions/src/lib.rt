@@ -4,4 +4,4 @@
 
 mod control;
 
-pub use control::{Control, Flow, with_mqt, with_t};
+pub use control::{Control, Flow};

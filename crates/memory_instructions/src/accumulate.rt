@@ -33,7 +33,7 @@ pub fn multiply_add(
         return Flow::Fault;
     };
     r[from] = r[from].wrapping_add(k);
-    let s = control.sr / 2 % 2;
+    let s = control.s_bit();
     let sum = accumulated(operation, control.mach, control.macl, s, a, b);
     control.mach = sum.mach;
     control.macl = sum.macl;

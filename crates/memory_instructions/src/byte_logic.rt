@@ -3,7 +3,7 @@ ghost use Rattle.instructions.specs.Promises.{Performs, Replaces};
 
 use arithmetic::logic;
 use decoder::{ImmediateByte, Meaning};
-use instructions::{Control, Flow, with_t};
+use instructions::{Control, Flow};
 use memory::{Access, Byte};
 
 #[tactic(auto, unfolding(instructions::specs::Execute::execute))]
@@ -24,7 +24,7 @@ pub fn immediate_byte(
         ImmediateByte::AndB => replace(logic::and(i as u32, v), at, memory),
         ImmediateByte::OrB => replace(logic::or(i as u32, v), at, memory),
         ImmediateByte::TstB => {
-            control.sr = with_t(control.sr, logic::tst(i as u32, v));
+            control.set_t(logic::tst(i as u32, v));
             Flow::Next
         }
         ImmediateByte::XorB => replace(logic::xor(i as u32, v), at, memory),
@@ -42,7 +42,7 @@ pub fn tas_b(n: u8, control: &mut Control, r: &[u32; 16], memory: &mut [u8]) -> 
     if Byte::store(memory, at, logic::or(128, v)).is_err() {
         return Flow::Fault;
     }
-    control.sr = with_t(control.sr, (v == 0) as u32);
+    control.set_t((v == 0) as u32);
     Flow::Next
 }
 

@@ -9,7 +9,7 @@ use decoder::{
     OneRegister, TwoRegisters,
 };
 use divide::Bits;
-use instructions::{Control, Flow, with_mqt, with_t};
+use instructions::{Control, Flow};
 
 #[tactic(auto, unfolding(instructions::specs::Execute::execute))]
 pub fn no_operand(operation: NoOperand, control: &mut Control) -> Flow
@@ -22,16 +22,16 @@ pub fn no_operand(operation: NoOperand, control: &mut Control) -> Flow
             Flow::Next
         }
         NoOperand::Clrt => {
-            control.sr = with_t(control.sr, 0);
+            control.set_t(0);
             Flow::Next
         }
         NoOperand::Div0u => {
-            control.sr = with_mqt(control.sr, divide::div0u());
+            control.set_mqt(divide::div0u());
             Flow::Next
         }
         NoOperand::Nop => Flow::Next,
         NoOperand::Sett => {
-            control.sr = with_t(control.sr, 1);
+            control.set_t(1);
             Flow::Next
         }
         NoOperand::Sleep => Flow::Sleep,
@@ -49,18 +49,18 @@ pub fn two_registers(
 {
     let from = (m % 16) as usize;
     let into = (n % 16) as usize;
-    let w = results::of_two_registers(operation, r[from], r[into], control.sr % 2);
+    let w = results::of_two_registers(operation, r[from], r[into], control.t_bit());
     r[into] = w.value;
-    control.sr = with_t(control.sr, w.t);
+    control.set_t(w.t);
 }
 
 pub fn one_register(operation: OneRegister, n: u8, control: &mut Control, r: &mut [u32; 16])
     ensures { (memory : List ℕ) → Performs (Meaning.OneRegister operation n) control.old r.old memory Flow.Next control.new r.new memory }
 {
     let into = (n % 16) as usize;
-    let w = results::of_one_register(operation, r[into], control.sr % 2);
+    let w = results::of_one_register(operation, r[into], control.t_bit());
     r[into] = w.value;
-    control.sr = with_t(control.sr, w.t);
+    control.set_t(w.t);
 }
 
 pub fn compare(operation: Compare, m: u8, n: u8, control: &mut Control, r: &[u32; 16])
@@ -68,14 +68,14 @@ pub fn compare(operation: Compare, m: u8, n: u8, control: &mut Control, r: &[u32
 {
     let from = (m % 16) as usize;
     let into = (n % 16) as usize;
-    control.sr = with_t(control.sr, results::of_compare(operation, r[from], r[into]));
+    control.set_t(results::of_compare(operation, r[from], r[into]));
 }
 
 pub fn compare_zero(operation: CompareZero, n: u8, control: &mut Control, r: &[u32; 16])
     ensures { (memory : List ℕ) → Performs (Meaning.CompareZero operation n) control.old r.now memory Flow.Next control.new r.now memory }
 {
     let into = (n % 16) as usize;
-    control.sr = with_t(control.sr, results::of_compare_zero(operation, r[into]));
+    control.set_t(results::of_compare_zero(operation, r[into]));
 }
 
 #[tactic(auto, unfolding(instructions::specs::Execute::execute))]
@@ -84,19 +84,18 @@ pub fn divide(operation: Divide, m: u8, n: u8, control: &mut Control, r: &mut [u
 {
     let from = (m % 16) as usize;
     let into = (n % 16) as usize;
-    let before = control.sr;
     match operation {
-        Divide::Div0s => control.sr = with_mqt(before, divide::div0s(r[from], r[into])),
+        Divide::Div0s => control.set_mqt(divide::div0s(r[from], r[into])),
         Divide::Div1 => {
-            let m_bit = before / 512 % 2;
-            let d = divide::div1(r[from], r[into], m_bit, before / 256 % 2, before % 2);
+            let m_bit = control.m_bit();
+            let d = divide::div1(r[from], r[into], m_bit, control.q_bit(), control.t_bit());
             r[into] = d.value;
             let bits = Bits {
                 m: m_bit,
                 q: d.q,
                 t: d.t,
             };
-            control.sr = with_mqt(before, bits);
+            control.set_mqt(bits);
         }
     }
 }
@@ -146,10 +145,10 @@ pub fn immediate_r0(operation: ImmediateR0, i: u8, control: &mut Control, r: &mu
     match operation {
         ImmediateR0::AndImm => r[0] = logic::and(i as u32, b),
         ImmediateR0::CmpEqImm => {
-            control.sr = with_t(control.sr, compares::cmp_eq(transfers::exts_b(i as u32), b));
+            control.set_t(compares::cmp_eq(transfers::exts_b(i as u32), b));
         }
         ImmediateR0::OrImm => r[0] = logic::or(i as u32, b),
-        ImmediateR0::TstImm => control.sr = with_t(control.sr, logic::tst(i as u32, b)),
+        ImmediateR0::TstImm => control.set_t(logic::tst(i as u32, b)),
         ImmediateR0::XorImm => r[0] = logic::xor(i as u32, b),
     }
 }
