@@ -115,7 +115,7 @@ fn divide(before: Machine, image: &mut [u8], budgets: &[u32]) -> Result<Answer, 
 
 fn print_after(rt: &impl Print, answer: &Answer) -> io::Result<()> {
     let Machine { r, control, .. } = answer.machine;
-    let q = control.sr / 0x100 % 2;
-    let t = control.sr % 2;
+    let q = control.q_bit();
+    let t = control.t_bit();
     println!(rt; "{:08x} {:08x} {q} {t} {}", r[1], r[2], answer.steps)
 }

@@ -37,7 +37,7 @@ fn show(rt: &impl Print, after: After, answer: &Answer, image: &[u8]) -> io::Res
         After::LongAt(name, at) => show_loaded(rt, name, Long::load(image, at), 8),
         After::WordAt(name, at) => show_loaded(rt, name, Word::load(image, at), 4),
         After::ByteAt(name, at) => show_loaded(rt, name, Byte::load(image, at), 2),
-        After::T => print!(rt; "T = {}", machine.control.sr % 2),
+        After::T => print!(rt; "T = {}", machine.control.t_bit()),
         After::Asleep => print!(rt; "asleep = {}", (machine.mode == Mode::Asleep) as u8),
         After::Steps => print!(rt; "steps = {}", answer.steps),
     }
