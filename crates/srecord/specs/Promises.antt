@@ -88,7 +88,8 @@ swept size n s (Some r ∷ rest) =
     let number = first (single_tests size s.closed s.count (summary r)) in
     cond (number == 0) (swept size (n + 1) (noted s (summary r)) rest) (finding number (n + 1) n s.ordered)
 
--- What is known behind a line, where it passes by itself, or the number of its refusal.
+-- The number of a line's refusal, address written twice left aside; 0 where it passes. And what is answered of a line: the refusal, or what
+-- is known behind it.
 abbrev pub alone : ℕ → SoFar → Option Record → ℕ
 alone size s None = 10
 alone size s (Some r) = first (single_tests size s.closed s.count (summary r))
