@@ -9,7 +9,8 @@ fn main(rt: HostRuntime) -> io::Result<()> {
     let mut stdin = rt.stdin();
     // The longest image that is read.
     let mut buffer = [0u8; 65540];
-    let count = read_long(&mut stdin).unwrap_or(0);
+    // With no count it is read on, as far as it goes.
+    let count = read_long(&mut stdin).unwrap_or(u32::MAX);
     for number in 1..=count {
         let Some(image) = read_image(&mut stdin, &mut buffer) else {
             break;
