@@ -149,31 +149,56 @@ const PATTERNS: [&str; 142] = [
     "0010nnnnmmmm1101",
 ];
 
-fn main(rt: HostRuntime) -> io::Result<()> {
-    let mut defined: usize = 0;
-    for (pattern, row) in PATTERNS.iter().zip(0..PATTERNS.len() as u8) {
-        let count = count_of(Some(row));
-        print_row(&rt, pattern, Some(row), count)?;
-        defined = defined.wrapping_add(count);
-    }
-    println!(rt; "defined {defined}")?;
-    println!(rt; "undefined {}", count_of(None))
+// The words of a row: how many they are, the first and the last.
+#[derive(Clone, Copy, Debug, PartialEq, Eq)]
+struct Words {
+    count: usize,
+    first: Option<u16>,
+    last: Option<u16>,
 }
 
-fn print_row(rt: &impl Print, pattern: &str, row: Option<u8>, count: usize) -> io::Result<()> {
-    print!(rt; "{pattern} {count}")?;
-    let first = (0..=u16::MAX).find(|word| row_of(*word) == row);
-    let last = (0..=u16::MAX).rfind(|word| row_of(*word) == row);
-    for word in [first, last].iter().flatten() {
+impl Words {
+    fn none() -> Words {
+        Words {
+            count: 0,
+            first: None,
+            last: None,
+        }
+    }
+
+    fn add(&mut self, word: u16) {
+        self.count = self.count.wrapping_add(1);
+        self.first = self.first.or(Some(word));
+        self.last = Some(word);
+    }
+}
+
+fn main(rt: HostRuntime) -> io::Result<()> {
+    let mut table = [Words::none(); PATTERNS.len()];
+    let mut undefined = Words::none();
+    for word in 0..=u16::MAX {
+        match rows::row_number(decoder::decode(word)) {
+            Some(row) => {
+                if let Some(words) = table.get_mut(row as usize) {
+                    words.add(word);
+                }
+            }
+            None => undefined.add(word),
+        }
+    }
+    let mut defined: usize = 0;
+    for (pattern, words) in PATTERNS.iter().zip(table) {
+        print_row(&rt, pattern, words)?;
+        defined = defined.wrapping_add(words.count);
+    }
+    println!(rt; "defined {defined}")?;
+    println!(rt; "undefined {}", undefined.count)
+}
+
+fn print_row(rt: &impl Print, pattern: &str, words: Words) -> io::Result<()> {
+    print!(rt; "{pattern} {}", words.count)?;
+    for word in [words.first, words.last].iter().flatten() {
         print!(rt; " {word:04x}")?;
     }
     println!(rt)
-}
-
-fn count_of(row: Option<u8>) -> usize {
-    (0..=u16::MAX).filter(|word| row_of(*word) == row).count()
-}
-
-fn row_of(word: u16) -> Option<u8> {
-    rows::row_number(decoder::decode(word))
 }
