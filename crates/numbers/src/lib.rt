@@ -4,8 +4,10 @@
 ghost use Rattle.std.specs.Prelude.{◌≡◌};
 ghost use Rattle.numbers.specs.Numbers as Numbers;
 
-// 2^32, the first number that a register cannot hold.
+// 2^32, the first number that a register cannot hold, and its half, from which on a register's top bit is set.
 pub const REACH: u64 = 0x1_0000_0000;
+
+pub const HALF: u32 = 0x8000_0000;
 
 // A register's new value, and the T bit.
 #[derive(Clone, Copy, Debug, PartialEq, Eq)]
