@@ -9,7 +9,7 @@ use Rattle.numbers.specs.declared.WithT.{WithT}
 use Rattle.decoder.specs.declared.meaning.Meaning.{Meaning}
 use Rattle.instructions.specs.declared.control.Control.{Control}
 use Rattle.instructions.specs.declared.control.Flow.{Flow}
-use Rattle.instructions.specs.Promises.{Attempts, Gives, Performs, Tells, state}
+use Rattle.instructions.specs.Promises.{Attempts, Computes, Gives, OnSr, Performs, Tells, state}
 use Rattle.instructions.specs.Shapes.{Effect, leads}
 use Rattle.instructions.specs.State.{State, control, reg, t_bit}
 use Rattle.instructions.proofs.Answers.{met}
@@ -42,6 +42,24 @@ module _ {f g : Flow} {c d : Control} {q r l m : List ℕ} where
       (slot : Bool) (x : Meaning) (before : Control) (general memory : List ℕ) →
       Attempts slot x before general memory f c q l → Attempts slot x before general memory g d r m → Same f g c d q r l m
   attempts_determined slot x before general memory one other = same_effect one other
+
+-- The promises that hold whatever the other control registers hold, or the memory: they hold where those are 0 and empty.
+module _ {sr sr' : ℕ} {q r : List ℕ} where
+  pub on_sr_determined :
+      {f g : Flow} {l m : List ℕ} (x : Meaning) (before : ℕ) (general memory : List ℕ) →
+      OnSr x before general memory f sr q l → OnSr x before general memory g sr' r m →
+      (f ≡ g) × (sr ≡ sr') × (q ≡ r) × (l ≡ m)
+  on_sr_determined {f} {g} {l} {m} x before general memory one other =
+      let none = control 0 0 0 0 0 0 0 in
+      let same = same_effect {f = f} {g = g} {l = l} {m = m} (one none) (other none) in
+      (same.flow, ap (λ (c : Control). c.sr) same.control, same.registers, same.memory)
+
+  pub computes_determined :
+      (x : Meaning) (before : ℕ) (general : List ℕ) → Computes x before general sr q → Computes x before general sr' r →
+      (sr ≡ sr') × (q ≡ r)
+  computes_determined x before general one other =
+      let all = on_sr_determined x before general [] (one []) (other []) in
+      (all.1, all.2)
 
 -- What is computed for Rn and T, where Rm is a, Rn is b and T is t: two results are told apart in a machine with these in R1, R2 and SR.
 module _ (x : ℕ → ℕ → Meaning) (a b : ℕ) where

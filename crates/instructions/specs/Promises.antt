@@ -19,6 +19,7 @@ use Rattle.instructions.specs.Execute.{attempted, execute}
 use Rattle.instructions.specs.Shapes.{gives_t, leads, storing, tells}
 use Rattle.instructions.specs.declared.control.Control.{Control}
 use Rattle.instructions.specs.declared.control.Flow.{Flow}
+use Rattle.instructions.specs.declared.control.Flow.TheVariants.{Next}
 use Rattle.instructions.specs.State.{State, reg, t_bit, masked, with_sr, with_gbr, with_vbr, with_pr, with_mach, with_macl}
 
 abbrev pub state : List ℕ → Control → List ℕ → State
@@ -31,6 +32,14 @@ Performs x c r memory f d q after = execute x (following c.pc) (state r c memory
 -- The same of what a step attempts, in a slot or not.
 abbrev pub Attempts : Bool → Meaning → Control → List ℕ → List ℕ → Flow → Control → List ℕ → List ℕ → Type 0
 Attempts slot x c r memory f d q after = attempted slot x (following c.pc) (state r c memory) ≡ leads f (state q d after)
+
+-- `Performs` of an instruction that has nothing to do with any control register but SR, said of SR alone.
+abbrev pub OnSr : Meaning → ℕ → List ℕ → List ℕ → Flow → ℕ → List ℕ → List ℕ → Type 0
+OnSr x sr r memory f sr' q after = (c : Control) → Performs x (with_sr sr c) r memory f (with_sr sr' c) q after
+
+-- Of one that works on SR and the general registers alone, and leads on to the next.
+abbrev pub Computes : Meaning → ℕ → List ℕ → ℕ → List ℕ → Type 0
+Computes x sr r sr' q = (memory : List ℕ) → OnSr x sr r memory Next sr' q memory
 
 -- A byte stored over the one that was read, in every state with this memory.
 abbrev pub Replaces : ℕ → ℕ → List ℕ → Flow → List ℕ → Type 0
