@@ -44,7 +44,8 @@ fn added(digits: &[u8]) -> Option<u32>
 // The number that pairs of digits make.
 fn number(pairs: &[[u8; 2]]) -> u32
     requires { length pairs.now ≤ 4 }
-    ensures { Promises.NumberOf pairs.now result }
+    ensures reads { Promises.NumberOf pairs.now result }
+    ensures small { result < 256 ^ length pairs.now }
 {
     let mut n = 0;
     for pair in pairs {

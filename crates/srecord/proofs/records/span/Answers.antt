@@ -53,5 +53,5 @@ returns c r is a =
     let cut = cut_behind line c.as_chunks.ensures.front c.as_chunks.ensures.front_len in
     let same = opening_same line r is c.in_ok-opening.ensures in
     let seen = count_seen line r is cut _ c.in_ok-first.ensures.value c.byte-count.ensures in
-    let from = address_read line r is cut _ seen (rw same at c.number.ensures) in
+    let from = address_read line r is cut _ seen (rw same at c.number.ensures.reads) in
     rw (from, c.data_length.ensures, same, data_length line r is cut _ seen)

@@ -31,4 +31,4 @@ returns c =
     let k = sum_known _ c.in_ok-sum.ensures in
     let counted = first_byte cut k.1 c.byte-count.result c.in_ok-first.ensures.value c.byte-count.ensures in
     rw c.data_length.ensures
-    (is_record cut k.1 c.args.opening _ counted c.if-pairs-count.false (sym c.may.ensures ∙ c.if-not-may.false) c.number.ensures k.2)
+    (is_record cut k.1 c.args.opening _ counted c.if-pairs-count.false (sym c.may.ensures ∙ c.if-not-may.false) c.number.ensures.reads k.2)
