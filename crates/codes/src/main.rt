@@ -150,7 +150,7 @@ const PATTERNS: [&str; 142] = [
 ];
 
 // The words of a row: how many they are, the first and the last.
-#[derive(Clone, Copy, Debug, PartialEq, Eq)]
+#[derive(Clone, Copy, Default)]
 struct Words {
     count: usize,
     first: Option<u16>,
@@ -158,14 +158,6 @@ struct Words {
 }
 
 impl Words {
-    fn none() -> Words {
-        Words {
-            count: 0,
-            first: None,
-            last: None,
-        }
-    }
-
     fn add(&mut self, word: u16) {
         self.count = self.count.wrapping_add(1);
         self.first = self.first.or(Some(word));
@@ -174,8 +166,8 @@ impl Words {
 }
 
 fn main(rt: HostRuntime) -> io::Result<()> {
-    let mut table = [Words::none(); PATTERNS.len()];
-    let mut undefined = Words::none();
+    let mut table = [Words::default(); PATTERNS.len()];
+    let mut undefined = Words::default();
     for word in 0..=u16::MAX {
         match rows::row_number(decoder::decode(word)) {
             Some(row) => {
