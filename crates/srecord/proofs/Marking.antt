@@ -93,6 +93,16 @@ between_more low i after j = go (eqb j i) refl
     go true e = rw (eqb-true j i e, le-leb low i after, lt-ltb i (i + 1) (omega arith), or-true)
     go false e = rw (before_next j i (eqb-false j i e), or-false)
 
+-- Nothing asked for, nothing marked.
+pub marks_nothing :
+    (marks : List ℕ) (wanted : ℕ → Bool) → ((i : ℕ) → i < 229376 → wanted i ≡ false) → Marks marks wanted false marks
+marks_nothing marks wanted none =
+    record {
+      taken = λ e. absurd (false≢true e);
+      free = λ e i below w. absurd (false≢true (sym (none i below) ∙ w));
+      now = λ e i below. rw (none i below, or-false);
+    }
+
 module _ {before after : List ℕ} {wanted : ℕ → Bool} where
   -- What is not asked for is as it was.
   as_before : Marks before wanted false after → (i : ℕ) → i < 229376 → wanted i ≡ false → marked before i ≡ marked after i

@@ -9,7 +9,7 @@ use Rattle.srecord.specs.declared.records.Summary.{Summary}
 use Rattle.srecord.specs.Lines.{lines}
 use Rattle.srecord.specs.Load.{records, writes}
 use Rattle.srecord.specs.Records.{Record, record_of}
-use Rattle.srecord.specs.Promises.{Again, AllRead, Finds, Marks, Once, Spans, marked, writes_by}
+use Rattle.srecord.specs.Promises.{Again, AllRead, Finds, FirstAgain, Marks, Once, Spans, marked, writes_by}
 use Rattle.srecord.proofs.Cutting.{no_line}
 
 -- One of the first n lines writes an address.
@@ -150,3 +150,39 @@ module _ (lines : List (Option Record)) {low n limit : ℕ} {marks : List ℕ} (
   pub ends_here : (left : ℕ) → n + left ≡ limit → (0 < left → length lines ≤ n) → Finds lines limit low (low + 229376) None
   ends_here zero e all = all_passed (omega arith)
   ends_here (suc left) e all = none_left (all (omega arith))
+
+module _ (lines : List (Option Record)) where
+  -- No address, no line that writes one again.
+  pub first_nowhere : (limit low : ℕ) → FirstAgain lines limit low low limit
+  first_nowhere limit low =
+      record { within = omega arith; once = λ i j a less below from to. omega arith; again = λ less. absurd (lt_irrefl _ less) }
+
+  -- The first in a part of the memory.
+  pub first_in_part :
+      {limit low high top first : ℕ} → FirstAgain lines limit low top first → high ≤ top → FirstAgain lines limit low high first
+  first_in_part f fewer =
+      record {
+        within = f.within;
+        once = λ i j a less below from to. f.once i j a less below from (omega arith);
+        again = f.again;
+      }
+
+  -- The first in one part, and among the lines before it the first in the next part.
+  pub first_in_both :
+      {limit low middle high first second : ℕ} → FirstAgain lines limit low middle first → FirstAgain lines first middle high second →
+      FirstAgain lines limit low high second
+  first_in_both {limit} {low} {middle} {high} {first} {second} f g =
+      record { within = omega (arith, f.within, g.within); once = once; again = again (ltb second first) refl }
+    where
+      once : Once lines second low high
+      once i j a less last from to = go (ltb a middle) refl
+        where
+          go : (lower : Bool) → ltb a middle ≡ lower → writes (get_or lines i None) a ≡ true → writes (get_or lines j None) a ≡ true → ⊥
+          go true e = f.once i j a less (omega (arith, g.within)) from (ltb-true a middle e)
+          go false e = g.once i j a less last (ltb-false a middle e) to
+
+      again : (earlier : Bool) → ltb second first ≡ earlier → second < limit → Again lines second
+      again true e less = g.again (ltb-true second first e)
+      again false e less =
+          let same : first ≡ second = omega (arith, ltb-false second first e, g.within) in
+          rw same at (f.again (rw same less))
