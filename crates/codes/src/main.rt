@@ -168,6 +168,7 @@ impl Words {
 fn main(rt: HostRuntime) -> io::Result<()> {
     let mut table = [Words::default(); PATTERNS.len()];
     let mut undefined = Words::default();
+    // A word whose row stands outside the table would be missing in both totals.
     for word in 0..=u16::MAX {
         match rows::row_number(decoder::decode(word)) {
             Some(row) => {

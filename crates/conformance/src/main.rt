@@ -9,7 +9,7 @@ fn main(rt: HostRuntime) -> io::Result<()> {
     let mut stdin = rt.stdin();
     // The longest image that is read.
     let mut buffer = [0u8; 65540];
-    // With no count it is read on, as far as it goes.
+    // An input that ended before its count may go on, as a terminal's does: it is read as far as it goes.
     let count = read_long(&mut stdin).unwrap_or(u32::MAX);
     for number in 1..=count {
         let Some(image) = read_image(&mut stdin, &mut buffer) else {
